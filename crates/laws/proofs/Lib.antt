@@ -2,3 +2,4 @@ pub mod Tests
 pub mod Lists
 pub mod Tabs
 pub mod Joined
+pub mod Floats
