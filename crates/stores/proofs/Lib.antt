@@ -1,1 +1,2 @@
 pub mod Encode
+pub mod Goods
