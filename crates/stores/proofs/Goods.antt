@@ -1,15 +1,15 @@
 -- A sound bank: it comes back from its stores, they pass the test of the refusals, and what passes that test is sound. Assumes nothing.
 use mathlib.Core.Path.{_≡_, refl, sym, ap, subst, _∙_}
 use mathlib.Core.List.{List, _∷_, _++_, map}
-use mathlib.Core.Bool.{Bool, true, false, not, _&&_, _||_}
+use mathlib.Core.Bool.{Bool, true, not, _&&_, _||_}
 use Prim.Native.Nat.{ℕ, _+_, _*_, _<_, _≤_}
 use native.Mathlib.Omega.{arith}
 use lib.ListN.{length, getD, length-append}
-use lib.Dec.{leb, ltb, eqb}
+use lib.Dec.{leb, ltb}
 use lib.Ieee.{Float}
-use borrow.Author.Tests.{ltb-true, ltb-false, leb-true, lt-ltb, le-ltb, le-leb, eq-eqb, not-false}
+use borrow.Author.Tests.{ltb-true, leb-true, lt-ltb, le-ltb, le-leb, eq-eqb, not-false}
 use Rattle.laws.specs.Lists.{tab, joined}
-use Rattle.laws.specs.Tests.{allBelow, within, differ, first}
+use Rattle.laws.specs.Tests.{allBelow, within, differ}
 use Rattle.laws.proofs.Lists.{length-part, row}
 use Rattle.laws.proofs.Tabs.{length-tab, getD-tab, tab-ext, tab-getD, map-tab, length-joined}
 use Rattle.laws.proofs.Tests.{and-l, and-r, or-l, or-r, all-at, all-true, passed, same-of, within-of}

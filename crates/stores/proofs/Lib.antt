@@ -1,2 +1,3 @@
 pub mod Encode
 pub mod Goods
+pub mod Fresh
