@@ -1,5 +1,5 @@
 -- A sound bank: it comes back from its stores, they pass the test of the refusals, and what passes that test is sound. Assumes nothing.
-use mathlib.Core.Path.{_≡_, refl, sym, ap, subst, _∙_}
+use mathlib.Core.Path.{_≡_, refl, sym, ap, ap₂, subst, _∙_}
 use mathlib.Core.List.{List, _∷_, _++_, map}
 use mathlib.Core.Bool.{Bool, true, not, _&&_, _||_}
 use Prim.Native.Nat.{ℕ, _+_, _*_, _<_, _≤_}
@@ -21,7 +21,7 @@ use Rattle.ring.specs.Sound.{Sound}
 use Rattle.ring.proofs.Stored.{chan-back, length-chanU}
 use Rattle.ring.proofs.Sound.{sound-facts, sound-passes}
 use Rattle.stores.specs.Good.{Good, Ready}
-use Rattle.stores.proofs.Encode.{Lengths, get-raw, get-usable, get-smooth, get-rise, get-block, get-sums, get-seeds, get-chan}
+use Rattle.stores.proofs.Encode.{bank-forth-u, bank-forth-f, Lengths, get-raw, get-usable, get-smooth, get-rise, get-block, get-sums, get-seeds, get-chan}
 
 -- ---- a sound bank comes back from its stores
 
@@ -187,3 +187,8 @@ ready u f e =
     let long = same-of (length u) (bankLen (getD u 0 0)) (or-l _ (differ (length f) (bankFLen (getD u 0 0))) (r .0)) in
     let long-f = same-of (length f) (bankFLen (getD u 0 0)) (or-r (differ (length u) (bankLen (getD u 0 0))) _ (r .0)) in
     record { long = long; long-f = long-f; good = good-of u f (size .0) (size .1) long long-f (passed-bank (bankOf u f) (not-false (soundBank (bankOf u f)) (s .0))) }
+
+-- stores that hold a sound bank are not refused
+pub not-refused : (u : List ℕ) (f : List Float) → Ready u f → bankRefusal u f ≡ 0
+not-refused u f r =
+    ap₂ bankRefusal (sym (bank-forth-u u f (r .long))) (sym (bank-forth-f u f (r .long-f))) ∙ passes (bankOf u f) (r .good)
