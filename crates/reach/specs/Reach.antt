@@ -2,8 +2,8 @@
 -- a fresh bank comes to is sound, and no call on it is refused with 2 or 9. Assumes nothing.
 use mathlib.Core.Path.{_≡_, refl, sym}
 use mathlib.Core.List.{List, [], _∷_}
-use mathlib.Core.Bool.{true, not, _||_}
-use Prim.Native.Nat.{ℕ, zero, suc}
+use mathlib.Core.Bool.{not, _||_}
+use Prim.Native.Nat.{ℕ, zero, suc, _≤_}
 use native.Mathlib.Omega.{arith}
 use lib.ListN.{length}
 use lib.Ieee.{Float}
@@ -68,20 +68,20 @@ calls-keep (c ∷ cs) s r = calls-keep cs (left s c) (call-keeps s c r)
 
 -- ---- from a fresh bank
 
-pub reached : (n : ℕ) → within 1 512 n ≡ true → (cs : List BankCall) → SoundStores (leftBy (storesOf (freshBank n)) cs)
-reached n h cs = calls-keep cs (storesOf (freshBank n)) (good-ready (freshBank n) (good-fresh n (within-of 1 512 n h .0) (within-of 1 512 n h .1)))
+pub reached : (n : ℕ) → 1 ≤ n → n ≤ 512 → (cs : List BankCall) → SoundStores (leftBy (storesOf (freshBank n)) cs)
+reached n low high cs = calls-keep cs (storesOf (freshBank n)) (good-ready (freshBank n) (good-fresh n (omega arith) (omega arith)))
 
 -- the stores are not refused ..
-pub reached-sound : (n : ℕ) → within 1 512 n ≡ true → (cs : List BankCall)
+pub reached-sound : (n : ℕ) → 1 ≤ n → n ≤ 512 → (cs : List BankCall)
     → bankRefusal (leftBy (storesOf (freshBank n)) cs .u) (leftBy (storesOf (freshBank n)) cs .f) ≡ 0
-reached-sound n h cs = not-refused (leftBy (storesOf (freshBank n)) cs .u) (leftBy (storesOf (freshBank n)) cs .f) (reached n h cs)
+reached-sound n low high cs = not-refused (leftBy (storesOf (freshBank n)) cs .u) (leftBy (storesOf (freshBank n)) cs .f) (reached n low high cs)
 
 -- .. and are those of a sound bank
-pub reached-good : (n : ℕ) → within 1 512 n ≡ true → (cs : List BankCall)
+pub reached-good : (n : ℕ) → 1 ≤ n → n ≤ 512 → (cs : List BankCall)
     → (b : FloorBank) × Good b × (leftBy (storesOf (freshBank n)) cs ≡ storesOf b)
-reached-good n h cs =
+reached-good n low high cs =
     let s = leftBy (storesOf (freshBank n)) cs in
-    let r = reached n h cs in
+    let r = reached n low high cs in
     (bankOf (s .u) (s .f), r .good, λ i. record { u = sym (bank-forth-u (s .u) (s .f) (r .long)) i; f = sym (bank-forth-f (s .u) (s .f) (r .long-f)) i })
 
 -- what making leaves where it does not refuse
@@ -89,9 +89,10 @@ made : (r : ℕ) (b : FloorBank) (u : List ℕ) (f : List Float) → leaves r b 
 made zero b u f e = (refl, refl)
 made (suc r) b u f e = absurd (omega arith)
 
-pub made-fresh : (u : List ℕ) (f : List Float) (n : ℕ) → bankNew u f n .0 ≡ 0 → (within 1 512 n ≡ true) × (storesIn (bankNew u f n) ≡ storesOf (freshBank n))
+pub made-fresh : (u : List ℕ) (f : List Float) (n : ℕ) → bankNew u f n .0 ≡ 0 → (1 ≤ n) × (n ≤ 512) × (storesIn (bankNew u f n) ≡ storesOf (freshBank n))
 unfolding bankNew makeRefusal
 made-fresh u f n e =
     let m = made (makeRefusal (length u) (length f) n) (freshBank n) u f e in
     let p = passed (not (within 1 512 n)) 1 (first (differ (length u) (bankLen n) || differ (length f) (bankFLen n)) 2 0) (omega arith) (m .0) in
-    (not-false (within 1 512 n) (p .0), m .1)
+    let size = within-of 1 512 n (not-false (within 1 512 n) (p .0)) in
+    (size .0, size .1, m .1)
