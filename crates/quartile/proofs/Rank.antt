@@ -161,6 +161,9 @@ zeros-under b (x ∷ l) p =
     (λ t. simp (t, lt-ltb x b (omega (arith, eqb-true 0 x t))) (omega (arith, zeros-under b l p)))
     (λ t. simp t (omega (arith, zeros-under b l p)))
 
+pub zeros-le : (l : List ℕ) → occ 0 l ≤ length l
+zeros-le l = omega (arith, zeros-under 1 l (omega arith), under-le 1 l)
+
 without-under : (s b : ℕ) (l : List ℕ) → s ≤ occ 0 l → 0 < b → under b (without s l) ≡ under b l - s
 unfolding without
 without-under zero b l h p = omega arith

@@ -1,3 +1,11 @@
+use mathlib.Core.Path.{_≡_, refl, sym, ap, _∙_}
+use native.Mathlib.Omega.{arith}
+use Rattle.model.specs.Ring.{centreOf, quartile, rawFloor, usableFloor}
+use Rattle.model.specs.Stores.{chanOf}
+use Rattle.laws.proofs.Lists.{getD-part}
+use Prim.Native.Nat.{ℕ, _+_, _-_, _<_, _≤_}
+use lib.ListN.{getD}
+use Rattle.quartile.proofs.Channel.{skip-within, nothing-left, some-left}
 use borrow.Author.Needs.{needs}
 use Rattle.quartile.proofs.quartile.Statement.{statement}
 use Rattle.quartile.proofs.quartile.Tie as tie
@@ -6,6 +14,9 @@ use Rattle.quartile.proofs.quartile.Lts as lts
 use Rattle.quartile.proofs.centre.Reads as centre-reads
 use Rattle.quartile.proofs.ranked_bin.Reads as ranked-bin-reads
 use Rattle.quartile.proofs.wide.Reads as wide-reads
+
+zeros : (s : tie.Start) → s .args .skip ≤ getD (chanOf (s .args .chan .now) .counts) 0 0
+zeros s = omega (arith, s .pre .1, getD-part 250 280 (s .args .chan .now) 0 0 (omega arith))
 
 -- src/lib.rt:45:21
 shared-slice-read-wide : tie.Need-shared-slice-read-wide
@@ -17,11 +28,15 @@ wide-requires c κs = search needs
 
 -- src/lib.rt:45:16
 sub-left : tie.Need-sub-left
-sub-left c = ?
+sub-left c =
+    let s = c .before .before .before in
+    omega (arith, skip-within (chanOf (s .args .chan .now)) (s .args .skip) (s .pre .0 .1) (omega arith) (zeros s), c .wide .ensures)
 
 -- src/lib.rt:47:9
 returns : tie.Need-returns
-returns c = ?
+returns c =
+    let s = c .before .before .before .before in
+    nothing-left (chanOf (s .args .chan .now)) (s .args .skip) (c .before .wide .result) (c .before .wide .ensures) (c .if1 .taken)
 
 -- src/lib.rt:49:37
 add-ranked-bin : tie.Need-add-ranked-bin
@@ -41,7 +56,12 @@ centre-requires c κs = search needs
 
 -- src/lib.rt:40:1
 returns-2 : tie.Need-returns-2
-returns-2 c = ?
+returns-2 c =
+    let r = c .before in
+    let w = r .before .before in
+    let s = w .before .before .before in
+    c .centre .ensures ∙ ap centreOf (r .ranked-bin .ensures)
+    ∙ some-left (chanOf (s .args .chan .now)) (s .args .skip) (w .wide .result) (s .pre .0 .1) (omega arith) (zeros s) (w .wide .ensures) (omega (arith, r .before .if1 .left))
 
 pub quartile-spec : {M : Type 1} → statement M
 quartile-spec =

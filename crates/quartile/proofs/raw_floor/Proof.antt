@@ -1,3 +1,4 @@
+use Rattle.model.specs.Ring.{rawFloor}
 use borrow.Author.Needs.{needs}
 use Rattle.quartile.proofs.raw_floor.Statement.{statement}
 use Rattle.quartile.proofs.raw_floor.Tie as tie
@@ -11,7 +12,8 @@ quartile-requires c κs = search needs
 
 -- src/lib.rt:52:1
 returns : tie.Need-returns
-returns c = ?
+unfolding rawFloor
+returns c = c .quartile .ensures
 
 pub raw-floor-spec : {M : Type 1} → statement M
 raw-floor-spec = tie.close (tie.spec quartile-requires returns)
