@@ -119,11 +119,12 @@ smallest-is b k l p u v =
 -- and the other way round
 under-smallest : (k : ℕ) (l : List ℕ) → 0 < k → k ≤ length l → (under (smallest k l) l < k) × (k ≤ under (smallest k l + 1) l)
 under-smallest k l p h =
-    let x = smallest k l in
-    (by-test (ltb (under x l) k) (λ t. ltb-true (under x l) k t)
-    (λ t. absurd (omega (arith, smallest-below x k l p (ltb-false (under x l) k t)))),
-    by-test (ltb (under (x + 1) l) k) (λ t. absurd (omega (arith, smallest-least (x + 1) k l p h (ltb-true (under (x + 1) l) k t))))
-    (λ t. ltb-false (under (x + 1) l) k t))
+    let x = smallest k l in (
+      by-test (ltb (under x l) k) (λ t. ltb-true (under x l) k t)
+          (λ t. absurd (omega (arith, smallest-below x k l p (ltb-false (under x l) k t)))),
+      by-test (ltb (under (x + 1) l) k) (λ t. absurd (omega (arith, smallest-least (x + 1) k l p h (ltb-true (under (x + 1) l) k t))))
+          (λ t. ltb-false (under (x + 1) l) k t),
+    )
 
 smallest-rises : (j k : ℕ) (l : List ℕ) → 0 < j → j ≤ k → k ≤ length l → smallest j l ≤ smallest k l
 smallest-rises j k l p h n = smallest-least (smallest j l) k l (omega arith) n (omega (arith, under-smallest j l p (omega arith) .0))
