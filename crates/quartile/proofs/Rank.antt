@@ -98,11 +98,11 @@ at-most b (x ∷ l) (suc i) d o k =
 
 -- ---- the k-th smallest
 
-pub smallest-least : (b k : ℕ) (l : List ℕ) → 0 < k → k ≤ length l → under b l < k → b ≤ smallest k l
+smallest-least : (b k : ℕ) (l : List ℕ) → 0 < k → k ≤ length l → under b l < k → b ≤ smallest k l
 unfolding smallest
 smallest-least b k l p h u = at-least b (sorted l) (k - 1) 279 (ordered-sorted l) (omega (arith, length-sorted l)) (omega (arith, under-sorted b l))
 
-pub smallest-below : (b k : ℕ) (l : List ℕ) → 0 < k → k ≤ under b l → smallest k l < b
+smallest-below : (b k : ℕ) (l : List ℕ) → 0 < k → k ≤ under b l → smallest k l < b
 unfolding smallest
 smallest-below b k l p u = at-most b (sorted l) (k - 1) 279 (ordered-sorted l) (omega (arith, under-sorted b l))
 

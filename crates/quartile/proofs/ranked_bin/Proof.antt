@@ -57,7 +57,7 @@ cast-result c = search needs
 returns : tie.Need-returns Inv-loop μ-loop
 returns c =
     let w = c .before in
-    scan-finds (w .wide .result) (w .before .before .before .loop .inv) (reads w) (c .if1 .taken)
+    scan-finds (w .wide .result) (w .before .before .before .loop .inv) (reads w) (omega (arith, c .if1 .taken))
 
 add-b : tie.Need-add-b Inv-loop μ-loop
 add-b c = search needs
@@ -68,7 +68,7 @@ loop-less c = search needs
 loop-again : tie.Need-loop-again Inv-loop μ-loop
 loop-again c =
     let w = c .before in
-    scan-turns (w .wide .result) (w .before .before .before .loop .inv) (reads w) (w .before .before .loop-test .taken) (c .if1 .left)
+    scan-turns (w .wide .result) (w .before .before .before .loop .inv) (reads w) (w .before .before .loop-test .taken) (omega (arith, c .if1 .left))
 
 -- a rank of a sound channel is never past its last bin
 returns-2 : tie.Need-returns-2 Inv-loop μ-loop
