@@ -40,9 +40,9 @@ module _ {A : Type 0} where
         within = omega arith;
         long = length-set l k x ∙ h .long;
         so-far =
-          ap₂ (λ (r : List A) (y : A). set r k y) (h .so-far) e
-          ∙ ap (λ (j : ℕ). set (splice 0 k l₀ (tab k f)) j (f k)) (sym (zero-add k))
-          ∙ fill-turns 0 k l₀ f (omega arith);
+            ap₂ (λ (r : List A) (y : A). set r k y) (h .so-far) e
+            ∙ ap (λ (j : ℕ). set (splice 0 k l₀ (tab k f)) j (f k)) (sym (zero-add k))
+            ∙ fill-turns 0 k l₀ f (omega arith);
       }
 
   pub done : (l₀ : List A) (f : ℕ → A) (k : ℕ) (l : List A) → Filled l₀ f k l → length l₀ ≤ k → l ≡ tab (length l₀) f

@@ -2,14 +2,18 @@
 use mathlib.Core.Path.{_≡_, refl, sym, ap, _∙_}
 use mathlib.Core.Bool.{true, false, cond}
 use mathlib.Core.List.{List, [], _∷_}
-use Prim.Native.Nat.{ℕ, zero, suc, _+_, _<_, _≤_}
+use Prim.Native.Nat.{ℕ, zero, suc, _+_, _-_, _<_, _≤_}
 use native.Mathlib.Numerals.{add-one}
 use native.Mathlib.Omega.{arith}
-use lib.ListN.{length, getD, drop}
-use lib.Seq.{drop-cons, drop-length}
+use lib.ListN.{length, getD, take, drop, length-drop}
+use lib.Seq.{take-all, drop-cons, drop-length}
 use lib.Ieee.{Float}
 use Rattle.model.specs.Numbers.{f0}
 use Rattle.model.specs.Bank.{standsAt, firstAt, ranked}
+
+-- a part of width w that would reach past the end is what is left
+pub take-rest : (a w : ℕ) (l : List Float) → length l - a ≤ w → take (length l - a) (drop a l) ≡ take w (drop a l)
+take-rest a w l h = take-all (length l - a) (drop a l) (omega (arith, length-drop a l)) ∙ sym (take-all w (drop a l) (omega (arith, length-drop a l)))
 
 -- what is still to be searched decides: none of the first i stands at the rank
 pub record Search (r : ℕ) (l : List Float) (i : ℕ) : Type 0 where

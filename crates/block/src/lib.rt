@@ -1,6 +1,6 @@
 // Document 01, "Block and bank step": what it does with numbers and with one list.
-pub mod powers;
 pub mod median;
+pub mod powers;
 pub mod seeds;
 
 ghost use mathlib.Core.Path.{_≡_};
@@ -10,8 +10,11 @@ ghost use Rattle.model.specs.Numbers.{fmin, fmax};
 ghost use Rattle.model.specs.Bank.{seedOf, notBelow, effectiveFloor, riseFloor};
 
 const SEED_PUSHES: u16 = 25;
+
 const RING_LEN: u16 = 250;
+
 const BLOCK_ALLOWANCE_DB: f64 = 3.0;
+
 const SEED_OFFSET_DB: f64 = 3.8;
 
 // A NaN is passed over: `a != a` holds of a NaN only, and a comparison with one is false.
@@ -49,7 +52,12 @@ fn not_below_seed(x: f64, early: bool, pushes: u16, sum: f64) -> f64
 pub fn effective_floor(usable: f64, block_floor: f64, since: u16, pushes: u16, sum: f64) -> f64
     ensures { λ r. ⌜ r ≡ effectiveFloor usable «block_floor» since pushes sum ⌝ }
 {
-    not_below_seed(least(usable, block_floor + BLOCK_ALLOWANCE_DB), since < SEED_PUSHES, pushes, sum)
+    not_below_seed(
+        least(usable, block_floor + BLOCK_ALLOWANCE_DB),
+        since < SEED_PUSHES,
+        pushes,
+        sum,
+    )
 }
 
 // The seed holds the rise floor up until the ring is full, the effective floor only for the first second.
@@ -57,5 +65,10 @@ pub fn rise_floor(usable: f64, block_floor: f64, since: u16, pushes: u16, sum: f
     ensures { λ r. ⌜ r ≡ riseFloor usable «block_floor» since pushes sum ⌝ }
 {
     let effective = effective_floor(usable, block_floor, since, pushes, sum);
-    not_below_seed(greatest(effective, block_floor), since < RING_LEN, pushes, sum)
+    not_below_seed(
+        greatest(effective, block_floor),
+        since < RING_LEN,
+        pushes,
+        sum,
+    )
 }

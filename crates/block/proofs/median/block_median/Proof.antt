@@ -1,3 +1,10 @@
+use mathlib.Core.Path.{ap, _∙_}
+use Prim.Native.Nat.{ℕ, _*_}
+use native.Mathlib.Omega.{arith}
+use lib.ListN.{take, drop}
+use Rattle.laws.proofs.Lists.{width}
+use Rattle.model.specs.Bank.{median}
+use Rattle.block.proofs.Ranks.{take-rest}
 use borrow.Author.Needs.{needs}
 use Rattle.block.proofs.median.block_median.Statement.{statement}
 use Rattle.block.proofs.median.block_median.Tie as tie
@@ -35,7 +42,8 @@ median-requires c κs = search needs
 
 -- src/median.rt:77:9
 returns : tie.Need-returns
-returns c = ?
+returns c = let s = c .before .before .before .before in
+    c .median .ensures ∙ ap median (take-rest (32 * s .args .i) 32 (s .args .l .now) (omega arith))
 
 -- src/median.rt:79:13
 add-e : tie.Need-add-e
@@ -63,7 +71,8 @@ median-requires-2 c κs = search needs
 
 -- src/median.rt:71:1
 returns-2 : tie.Need-returns-2
-returns-2 c = ?
+returns-2 c = let s = c .before .before .before .before in
+    c .median2 .ensures ∙ ap (λ (w : ℕ). median (take w (drop (32 * s .args .i) (s .args .l .now)))) (width (32 * s .args .i) 32)
 
 pub block-median-spec : {M : Type 1} → statement M
 block-median-spec =

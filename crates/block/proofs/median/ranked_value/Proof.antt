@@ -37,7 +37,10 @@ stands-at-requires c κs = search needs
 
 -- src/median.rt:51:13
 returns : tie.Need-returns Inv-loop μ-loop
-returns c = ?
+returns c = let v = c .before in
+    let i = v .before .before .before in
+    let s = i .before .before in
+    found (s .args .rank) (s .args .l .now) (i .loop .i) nan (i .loop .inv) (omega arith) (sym (v .stands-at .ensures) ∙ c .if1 .taken)
 
 -- src/median.rt:53:9
 add-i : tie.Need-add-i Inv-loop μ-loop
@@ -49,7 +52,10 @@ loop-less c = search needs
 
 -- src/median.rt:48:5
 loop-again : tie.Need-loop-again Inv-loop μ-loop
-loop-again c = ?
+loop-again c = let v = c .before in
+    let i = v .before .before .before in
+    let s = i .before .before in
+    goes-on (s .args .rank) (s .args .l .now) (i .loop .i) nan (i .loop .inv) (omega arith) (sym (v .stands-at .ensures) ∙ c .if1 .left)
 
 -- src/median.rt:55:5
 shared-slice-read-result : tie.Need-shared-slice-read-result Inv-loop μ-loop
@@ -57,7 +63,9 @@ shared-slice-read-result c = search needs
 
 -- src/median.rt:43:1
 returns-2 : tie.Need-returns-2 Inv-loop μ-loop
-returns-2 c = ?
+returns-2 c = let i = c .before .before in
+    let s = i .before .before in
+    getD-any (s .args .l .now) 0 nan f0 (omega arith) ∙ ends (s .args .rank) (s .args .l .now) (i .loop .i) (i .loop .inv) (omega arith)
 
 pub ranked-value-spec : {M : Type 1} → statement M
 ranked-value-spec =

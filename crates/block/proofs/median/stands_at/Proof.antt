@@ -19,7 +19,7 @@ count-below-requires c κs = search needs
 -- src/median.rt:37:9
 returns : tie.Need-returns
 returns c = let s = c .before .before .before in
-    sym (and-false-l _ _ (lt-leb (count (λ (y : Float). lt y (s .args .x)) (s .args .l .now)) (s .args .rank) (omega (arith, c .before .before .count-below .ensures))))
+    sym (and-false-l _ _ (lt-leb (count (λ (y : Float). lt y (s .args .x)) (s .args .l .now)) (s .args .rank) (omega (arith, c .before .count-below .ensures))))
 
 -- src/median.rt:39:12
 count-not-above-requires : tie.Need-count-not-above-requires
@@ -28,7 +28,7 @@ count-not-above-requires c κs = search needs
 -- src/median.rt:33:1
 returns-2 : tie.Need-returns-2
 returns-2 c = let s = c .before .before .before .before in
-    simp (le-leb (count (λ (y : Float). lt y (s .args .x)) (s .args .l .now)) (s .args .rank) (omega (arith, c .before .before .before .count-below .ensures)), c .count-not-above .ensures)
+    simp (le-leb (count (λ (y : Float). lt y (s .args .x)) (s .args .l .now)) (s .args .rank) (omega (arith, c .before .before .count-below .ensures)), c .count-not-above .ensures)
 
 pub stands-at-spec : {M : Type 1} → statement M
 stands-at-spec =

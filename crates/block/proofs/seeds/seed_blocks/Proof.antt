@@ -1,5 +1,7 @@
+use Rattle.laws.specs.Lists.{tab, one}
+use Rattle.model.specs.Bank.{takesSeed, sumAfter}
 use mathlib.Core.Path.{sym, ap, _∙_}
-use Prim.Native.Nat.{_-_}
+use Prim.Native.Nat.{ℕ, _+_, _-_}
 use native.Mathlib.Omega.{arith}
 use lib.ListN.{length, getD}
 use lib.Ieee.{nan}
@@ -67,7 +69,11 @@ slice-read-pushes-after c = search needs
 
 -- src/seeds.rt:47:20
 pushes-after-requires : tie.Need-pushes-after-requires Inv-loop μ-loop
-pushes-after-requires c κs = search needs
+pushes-after-requires c κs = let l = c .before .before .before .before .before .before in
+    let s = l .before .before .before .before in
+    let seeds = s .args .seeds .now in
+    let p = unwritten seeds (pushesAt seeds (s .args .power-db .now)) (l .loop .i) (l .loop .seeds) 0 0 (l .loop .inv .0) (omega arith) in
+    omega (arith, p, s .pre .small (l .loop .i) (omega arith))
 
 -- src/seeds.rt:47:9
 mul-seeds : tie.Need-mul-seeds Inv-loop μ-loop
@@ -87,7 +93,21 @@ loop-less c = search needs
 
 -- src/seeds.rt:44:5
 loop-again : tie.Need-loop-again Inv-loop μ-loop
-loop-again c = ?
+loop-again c = let u = c .before .before in
+    let b = u .before .before .before in
+    let l = b .before .before in
+    let s = l .before .before .before .before in
+    let seeds = s .args .seeds .now in
+    let sums = s .args .sums .now in
+    let db = s .args .power-db .now in
+    let p = unwritten seeds (pushesAt seeds db) (l .loop .i) (l .loop .seeds) 0 0 (l .loop .inv .0) (omega arith) in
+    let q = unwritten sums (sumAt seeds sums db) (l .loop .i) (l .loop .sums) nan f0 (l .loop .inv .1) (omega arith) in
+    let m = b .block-median .ensures in (
+      turns seeds (pushesAt seeds db) (l .loop .i) (l .loop .seeds) (c .pushes-after .result) (l .loop .inv .0) (omega arith)
+          (c .pushes-after .ensures ∙ (λ j. p j + one (takesSeed (p j) (m j)))),
+      turns sums (sumAt seeds sums db) (l .loop .i) (l .loop .sums) (u .sum-after .result) (l .loop .inv .1) (omega arith)
+          (u .sum-after .ensures ∙ (λ j. sumAfter (p j) (q j) (m j))),
+    )
 
 -- src/seeds.rt:39:1
 same-length : tie.Need-same-length Inv-loop μ-loop
@@ -99,7 +119,19 @@ same-length-2 c = search needs
 
 -- src/seeds.rt:39:1
 returns : tie.Need-returns Inv-loop μ-loop
-returns c = ?
+returns c = let l = c .before in
+    let s = l .before .before .before .before in
+    let seeds = s .args .seeds .now in
+    let sums = s .args .sums .now in
+    let db = s .args .power-db .now in
+    record {
+      pushes =
+          done seeds (pushesAt seeds db) (l .loop .i) (l .loop .seeds) (l .loop .inv .0) (omega arith)
+          ∙ ap (λ (n : ℕ). tab n (pushesAt seeds db)) (s .pre .seeds-long);
+      sum =
+          done sums (sumAt seeds sums db) (l .loop .i) (l .loop .sums) (l .loop .inv .1) (omega arith)
+          ∙ ap (λ (n : ℕ). tab n (sumAt seeds sums db)) (s .pre .sums-long);
+    }
 
 pub seed-blocks-spec : {M : Type 1} → statement M
 seed-blocks-spec =
