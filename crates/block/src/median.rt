@@ -1,6 +1,6 @@
 // The median by rank: no sorting, no copy. Counting loops without a way out, so that they can run several lanes wide.
 ghost use mathlib.Core.Path.{_≡_};
-ghost use Prim.Native.Nat.{_*_, _<_, _≤_};
+ghost use Prim.Native.Nat.{_*_, _<_};
 ghost use lib.ListN.{length};
 ghost use lib.Ieee.{lt, le};
 ghost use Rattle.laws.specs.Lists.{count};
@@ -69,7 +69,7 @@ pub fn median(l: &[f64]) -> f64
 
 // Block i's median: of 32 values, or of what is left in the last block.
 pub fn block_median(l: &[f64], i: usize) -> f64
-    requires { ⌜ (32 * i < length (now l)) × (length (now l) ≤ 512) ⌝ }
+    requires { ⌜ 32 * i < length (now l) ⌝ }
     ensures { λ r. ⌜ r ≡ median (block i (now (l .entry))) ⌝ }
 {
     let a = 32 * i;

@@ -8,68 +8,50 @@ use Rattle.block.proofs.Ranks.{take-rest}
 use borrow.Author.Needs.{needs}
 use Rattle.block.proofs.median.block_median.Statement.{statement}
 use Rattle.block.proofs.median.block_median.Tie as tie
-use Rattle.block.proofs.median.block_median.Reads as reads
-use Rattle.block.proofs.median.block_median.Lts as lts
-use Rattle.block.proofs.median.median.Reads as median-reads
 
--- src/median.rt:75:13
 mul-a : tie.Need-mul-a
 mul-a c = search needs
 
--- src/median.rt:76:8
 sub-if1 : tie.Need-sub-if1
 sub-if1 c = search needs
 
--- src/median.rt:77:23
 mul-median : tie.Need-mul-median
 mul-median c = search needs
 
--- src/median.rt:77:23
 sub-median : tie.Need-sub-median
 sub-median c = search needs
 
--- src/median.rt:77:23
 part-median-start : tie.Need-part-median-start
 part-median-start c = search needs
 
--- src/median.rt:77:23
 part-median-end : tie.Need-part-median-end
 part-median-end c = search needs
 
--- src/median.rt:77:9
 median-requires : tie.Need-median-requires
 median-requires c κs = search needs
 
--- src/median.rt:77:9
 returns : tie.Need-returns
 returns c = let s = c .before .before .before .before in
     c .median .ensures ∙ ap median (take-rest (32 * s .args .i) 32 (s .args .l .now) (omega arith))
 
--- src/median.rt:79:13
 add-e : tie.Need-add-e
 add-e c = search needs
 
--- src/median.rt:80:12
 mul-median-2 : tie.Need-mul-median-2
 mul-median-2 c = search needs
 
--- src/median.rt:80:12
 sub-median-2 : tie.Need-sub-median-2
 sub-median-2 c = search needs
 
--- src/median.rt:80:12
 part-median-start-2 : tie.Need-part-median-start-2
 part-median-start-2 c = search needs
 
--- src/median.rt:80:12
 part-median-end-2 : tie.Need-part-median-end-2
 part-median-end-2 c = search needs
 
--- src/median.rt:80:5
 median-requires-2 : tie.Need-median-requires-2
 median-requires-2 c κs = search needs
 
--- src/median.rt:71:1
 returns-2 : tie.Need-returns-2
 returns-2 c = let s = c .before .before .before .before in
     c .median2 .ensures ∙ ap (λ (w : ℕ). median (take w (drop (32 * s .args .i) (s .args .l .now)))) (width (32 * s .args .i) 32)

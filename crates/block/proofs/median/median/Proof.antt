@@ -8,33 +8,24 @@ use Rattle.model.specs.Bank.{median}
 use borrow.Author.Needs.{needs}
 use Rattle.block.proofs.median.median.Statement.{statement}
 use Rattle.block.proofs.median.median.Tie as tie
-use Rattle.block.proofs.median.median.Reads as reads
-use Rattle.block.proofs.median.median.Lts as lts
-use Rattle.block.proofs.median.ranked_value.Reads as ranked-value-reads
 
--- src/median.rt:64:9
 ranked-value-requires : tie.Need-ranked-value-requires
 ranked-value-requires c κs = search needs
 
--- src/median.rt:64:9
 returns : tie.Need-returns
 unfolding median
 returns c = let s = c .before .before .before in
     rw (eq-eqb (length (s .args .l .now) % 2) 1 (c .before .if1 .taken)) (c .ranked-value .ensures)
 
--- src/median.rt:66:33
 sub-ranked-value : tie.Need-sub-ranked-value
 sub-ranked-value c = search needs
 
--- src/median.rt:66:9
 ranked-value-requires-2 : tie.Need-ranked-value-requires-2
 ranked-value-requires-2 c κs = search needs
 
--- src/median.rt:67:20
 ranked-value-requires-3 : tie.Need-ranked-value-requires-3
 ranked-value-requires-3 c κs = search needs
 
--- src/median.rt:58:1
 returns-2 : tie.Need-returns-2
 unfolding median
 returns-2 c = let s = c .before .before .before .before in

@@ -7,25 +7,17 @@ use Rattle.laws.proofs.Tests.{and-false-l}
 use borrow.Author.Needs.{needs}
 use Rattle.block.proofs.median.stands_at.Statement.{statement}
 use Rattle.block.proofs.median.stands_at.Tie as tie
-use Rattle.block.proofs.median.stands_at.Reads as reads
-use Rattle.block.proofs.median.stands_at.Lts as lts
-use Rattle.block.proofs.median.count_below.Reads as count-below-reads
-use Rattle.block.proofs.median.count_not_above.Reads as count-not-above-reads
 
--- src/median.rt:36:8
 count-below-requires : tie.Need-count-below-requires
 count-below-requires c κs = search needs
 
--- src/median.rt:37:9
 returns : tie.Need-returns
 returns c = let s = c .before .before .before in
     sym (and-false-l _ _ (lt-leb (count (λ (y : Float). lt y (s .args .x)) (s .args .l .now)) (s .args .rank) (omega (arith, c .before .count-below .ensures))))
 
--- src/median.rt:39:12
 count-not-above-requires : tie.Need-count-not-above-requires
 count-not-above-requires c κs = search needs
 
--- src/median.rt:33:1
 returns-2 : tie.Need-returns-2
 returns-2 c = let s = c .before .before .before .before in
     simp (le-leb (count (λ (y : Float). lt y (s .args .x)) (s .args .l .now)) (s .args .rank) (omega (arith, c .before .before .count-below .ensures)), c .count-not-above .ensures)

@@ -4,15 +4,10 @@ use Rattle.model.specs.Numbers.{epsilon}
 use borrow.Author.Needs.{needs}
 use Rattle.block.proofs.powers.power_linear.Statement.{statement}
 use Rattle.block.proofs.powers.power_linear.Tie as tie
-use Rattle.block.proofs.powers.power_linear.Reads as reads
-use Rattle.block.proofs.powers.power_linear.Lts as lts
-use Rattle.std.proofs.num.f32_to_f64_with_nan.Reads as f32-to-f64-with-nan-reads
 
--- src/powers.rt:12:5
 f32-to-f64-with-nan-requires : tie.Need-f32-to-f64-with-nan-requires
 f32-to-f64-with-nan-requires c κs = search needs
 
--- src/powers.rt:9:1
 returns : tie.Need-returns
 returns c = ap (λ (x : Float). add binary64 x epsilon) (c .f32-to-f64-with-nan .ensures)
 

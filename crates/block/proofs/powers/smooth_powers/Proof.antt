@@ -9,10 +9,6 @@ use Rattle.block.proofs.Fills.{Filled, begins, unwritten, turns, getD-a
 use borrow.Author.Needs.{needs}
 use Rattle.block.proofs.powers.smooth_powers.Statement.{statement}
 use Rattle.block.proofs.powers.smooth_powers.Tie as tie
-use Rattle.block.proofs.powers.smooth_powers.Reads as reads
-use Rattle.block.proofs.powers.smooth_powers.Lts as lts
-use Rattle.block.proofs.powers.power_linear.Reads as power-linear-reads
-use Rattle.block.proofs.powers.smooth_step.Reads as smooth-step-reads
 
 abbrev entry : List Float → List Float → ℕ → Float
 entry smooth power k = smoothed (getD smooth k f0) (powerLinear (getD power k f0))
@@ -23,51 +19,39 @@ Inv-loop smooth₀ power k₀ smooth k = Filled smooth₀ (entry smooth₀ power
 abbrev μ-loop : tie.MeasureT-loop
 μ-loop smooth₀ power k₀ smooth k = length smooth₀ - k
 
--- src/powers.rt:39:5
 loop-holds : tie.Need-loop-holds Inv-loop μ-loop
 loop-holds c = begins _ _
 
--- src/powers.rt:40:33
 mul-smooth-step : tie.Need-mul-smooth-step Inv-loop μ-loop
 mul-smooth-step c = search needs
 
--- src/powers.rt:40:33
 slice-read-smooth-step : tie.Need-slice-read-smooth-step Inv-loop μ-loop
 slice-read-smooth-step c = search needs
 
--- src/powers.rt:40:57
 mul-power-linear : tie.Need-mul-power-linear Inv-loop μ-loop
 mul-power-linear c = search needs
 
--- src/powers.rt:40:57
 shared-slice-read-power-linear : tie.Need-shared-slice-read-power-linear Inv-loop μ-loop
 shared-slice-read-power-linear c = search needs
 
--- src/powers.rt:40:44
 power-linear-requires : tie.Need-power-linear-requires Inv-loop μ-loop
 power-linear-requires c κs = search needs
 
--- src/powers.rt:40:21
 smooth-step-requires : tie.Need-smooth-step-requires Inv-loop μ-loop
 smooth-step-requires c κs = search needs
 
--- src/powers.rt:40:9
 mul-smooth : tie.Need-mul-smooth Inv-loop μ-loop
 mul-smooth c = search needs
 
--- src/powers.rt:40:9
 slice-write-smooth : tie.Need-slice-write-smooth Inv-loop μ-loop
 slice-write-smooth c = search needs
 
--- src/powers.rt:41:9
 add-k : tie.Need-add-k Inv-loop μ-loop
 add-k c = search needs
 
--- src/powers.rt:39:5
 loop-less : tie.Need-loop-less Inv-loop μ-loop
 loop-less c = search needs
 
--- src/powers.rt:39:5
 loop-again : tie.Need-loop-again Inv-loop μ-loop
 loop-again c = let l = c .before .before .before .before .before in
     let s = l .before .before .before in
@@ -76,11 +60,9 @@ loop-again c = let l = c .before .before .before .before .before in
     ∙ ap₂ smoothed (unwritten (s .args .smooth .now) (entry (s .args .smooth .now) (s .args .power .now)) (l .loop .k) (l .loop .smooth) nan f0 (l .loop .inv) (omega arith))
     (c .before .power-linear .ensures ∙ ap powerLinear (getD-any (s .args .power .now) (l .loop .k) nan f0 (omega arith))))
 
--- src/powers.rt:34:1
 same-length : tie.Need-same-length Inv-loop μ-loop
 same-length c = search needs
 
--- src/powers.rt:34:1
 returns : tie.Need-returns Inv-loop μ-loop
 returns c = let l = c .before in
     let s = l .before .before .before in

@@ -1,17 +1,14 @@
-use mathlib.Core.Path.{ap, ap₂, _∙_}
+use mathlib.Core.Path.{ap, _∙_}
 use mathlib.Core.List.{List}
 use Prim.Native.Nat.{ℕ, _-_}
 use lib.ListN.{length, getD}
 use lib.Ieee.{Float, nan}
 use native.Mathlib.Omega.{arith}
-use Rattle.model.specs.Numbers.{f0, powerLinear, smoothed}
-use Rattle.block.proofs.Fills.{Filled, begins, unwritten, turns, getD-any, done}
+use Rattle.model.specs.Numbers.{f0, powerLinear}
+use Rattle.block.proofs.Fills.{Filled, begins, turns, getD-any, done}
 use borrow.Author.Needs.{needs}
 use Rattle.block.proofs.powers.start_powers.Statement.{statement}
 use Rattle.block.proofs.powers.start_powers.Tie as tie
-use Rattle.block.proofs.powers.start_powers.Reads as reads
-use Rattle.block.proofs.powers.start_powers.Lts as lts
-use Rattle.block.proofs.powers.power_linear.Reads as power-linear-reads
 
 abbrev entry : List Float → ℕ → Float
 entry power k = powerLinear (getD power k f0)
@@ -22,50 +19,39 @@ Inv-loop smooth₀ power k₀ smooth k = Filled smooth₀ (entry power) k smooth
 abbrev μ-loop : tie.MeasureT-loop
 μ-loop smooth₀ power k₀ smooth k = length smooth₀ - k
 
--- src/powers.rt:27:5
 loop-holds : tie.Need-loop-holds Inv-loop μ-loop
 loop-holds c = begins _ _
 
--- src/powers.rt:28:34
 mul-power-linear : tie.Need-mul-power-linear Inv-loop μ-loop
 mul-power-linear c = search needs
 
--- src/powers.rt:28:34
 shared-slice-read-power-linear : tie.Need-shared-slice-read-power-linear Inv-loop μ-loop
 shared-slice-read-power-linear c = search needs
 
--- src/powers.rt:28:21
 power-linear-requires : tie.Need-power-linear-requires Inv-loop μ-loop
 power-linear-requires c κs = search needs
 
--- src/powers.rt:28:9
 mul-smooth : tie.Need-mul-smooth Inv-loop μ-loop
 mul-smooth c = search needs
 
--- src/powers.rt:28:9
 slice-write-smooth : tie.Need-slice-write-smooth Inv-loop μ-loop
 slice-write-smooth c = search needs
 
--- src/powers.rt:29:9
 add-k : tie.Need-add-k Inv-loop μ-loop
 add-k c = search needs
 
--- src/powers.rt:27:5
 loop-less : tie.Need-loop-less Inv-loop μ-loop
 loop-less c = search needs
 
--- src/powers.rt:27:5
 loop-again : tie.Need-loop-again Inv-loop μ-loop
 loop-again c = let l = c .before .before .before in
     let s = l .before .before .before in
     turns (s .args .smooth .now) (entry (s .args .power .now)) (l .loop .k) (l .loop .smooth) (c .power-linear .result) (l .loop .inv) (omega arith)
     (c .power-linear .ensures ∙ ap powerLinear (getD-any (s .args .power .now) (l .loop .k) nan f0 (omega arith)))
 
--- src/powers.rt:22:1
 same-length : tie.Need-same-length Inv-loop μ-loop
 same-length c = search needs
 
--- src/powers.rt:22:1
 returns : tie.Need-returns Inv-loop μ-loop
 returns c = let l = c .before in
     let s = l .before .before .before in

@@ -1,9 +1,9 @@
 use Rattle.laws.specs.Lists.{tab, one}
 use Rattle.model.specs.Bank.{takesSeed, sumAfter}
-use mathlib.Core.Path.{sym, ap, _∙_}
+use mathlib.Core.Path.{ap, _∙_}
 use Prim.Native.Nat.{ℕ, _+_, _-_}
 use native.Mathlib.Omega.{arith}
-use lib.ListN.{length, getD}
+use lib.ListN.{length}
 use lib.Ieee.{nan}
 use Rattle.model.specs.Numbers.{f0}
 use Rattle.block.specs.Seeds.{pushesAt, sumAt}
@@ -11,11 +11,6 @@ use Rattle.block.proofs.Fills.{Filled, begins, unwritten, turns, done}
 use borrow.Author.Needs.{needs}
 use Rattle.block.proofs.seeds.seed_blocks.Statement.{statement}
 use Rattle.block.proofs.seeds.seed_blocks.Tie as tie
-use Rattle.block.proofs.seeds.seed_blocks.Reads as reads
-use Rattle.block.proofs.seeds.seed_blocks.Lts as lts
-use Rattle.block.proofs.median.block_median.Reads as block-median-reads
-use Rattle.block.proofs.seeds.pushes_after.Reads as pushes-after-reads
-use Rattle.block.proofs.seeds.sum_after.Reads as sum-after-reads
 
 abbrev Inv-loop : tie.InvT-loop
 Inv-loop seeds₀ sums₀ power-db i₀ seeds sums i = Filled seeds₀ (pushesAt seeds₀ power-db) i seeds × Filled sums₀ (sumAt seeds₀ sums₀ power-db) i sums
@@ -23,51 +18,39 @@ Inv-loop seeds₀ sums₀ power-db i₀ seeds sums i = Filled seeds₀ (pushesAt
 abbrev μ-loop : tie.MeasureT-loop
 μ-loop seeds₀ sums₀ power-db i₀ seeds sums i = length seeds₀ - i
 
--- src/seeds.rt:44:5
 loop-holds : tie.Need-loop-holds Inv-loop μ-loop
 loop-holds c = (begins _ _, begins _ _)
 
--- src/seeds.rt:45:13
 block-median-requires : tie.Need-block-median-requires Inv-loop μ-loop
 block-median-requires c κs = search needs
 
--- src/seeds.rt:46:29
 mul-sum-after : tie.Need-mul-sum-after Inv-loop μ-loop
 mul-sum-after c = search needs
 
--- src/seeds.rt:46:29
 slice-read-sum-after : tie.Need-slice-read-sum-after Inv-loop μ-loop
 slice-read-sum-after c = search needs
 
--- src/seeds.rt:46:39
 mul-sum-after-2 : tie.Need-mul-sum-after-2 Inv-loop μ-loop
 mul-sum-after-2 c = search needs
 
--- src/seeds.rt:46:39
 slice-read-sum-after-2 : tie.Need-slice-read-sum-after-2 Inv-loop μ-loop
 slice-read-sum-after-2 c = search needs
 
--- src/seeds.rt:46:19
 sum-after-requires : tie.Need-sum-after-requires Inv-loop μ-loop
 sum-after-requires c κs = search needs
 
--- src/seeds.rt:46:9
 mul-sums : tie.Need-mul-sums Inv-loop μ-loop
 mul-sums c = search needs
 
--- src/seeds.rt:46:9
 slice-write-sums : tie.Need-slice-write-sums Inv-loop μ-loop
 slice-write-sums c = search needs
 
--- src/seeds.rt:47:33
 mul-pushes-after : tie.Need-mul-pushes-after Inv-loop μ-loop
 mul-pushes-after c = search needs
 
--- src/seeds.rt:47:33
 slice-read-pushes-after : tie.Need-slice-read-pushes-after Inv-loop μ-loop
 slice-read-pushes-after c = search needs
 
--- src/seeds.rt:47:20
 pushes-after-requires : tie.Need-pushes-after-requires Inv-loop μ-loop
 pushes-after-requires c κs = let l = c .before .before .before .before .before .before in
     let s = l .before .before .before .before in
@@ -75,23 +58,18 @@ pushes-after-requires c κs = let l = c .before .before .before .before .before 
     let p = unwritten seeds (pushesAt seeds (s .args .power-db .now)) (l .loop .i) (l .loop .seeds) 0 0 (l .loop .inv .0) (omega arith) in
     omega (arith, p, s .pre .small (l .loop .i) (omega arith))
 
--- src/seeds.rt:47:9
 mul-seeds : tie.Need-mul-seeds Inv-loop μ-loop
 mul-seeds c = search needs
 
--- src/seeds.rt:47:9
 slice-write-seeds : tie.Need-slice-write-seeds Inv-loop μ-loop
 slice-write-seeds c = search needs
 
--- src/seeds.rt:48:9
 add-i : tie.Need-add-i Inv-loop μ-loop
 add-i c = search needs
 
--- src/seeds.rt:44:5
 loop-less : tie.Need-loop-less Inv-loop μ-loop
 loop-less c = search needs
 
--- src/seeds.rt:44:5
 loop-again : tie.Need-loop-again Inv-loop μ-loop
 loop-again c = let u = c .before .before in
     let b = u .before .before .before in
@@ -109,15 +87,12 @@ loop-again c = let u = c .before .before in
           (u .sum-after .ensures ∙ (λ j. sumAfter (p j) (q j) (m j))),
     )
 
--- src/seeds.rt:39:1
 same-length : tie.Need-same-length Inv-loop μ-loop
 same-length c = search needs
 
--- src/seeds.rt:39:1
 same-length-2 : tie.Need-same-length-2 Inv-loop μ-loop
 same-length-2 c = search needs
 
--- src/seeds.rt:39:1
 returns : tie.Need-returns Inv-loop μ-loop
 returns c = let l = c .before in
     let s = l .before .before .before .before in

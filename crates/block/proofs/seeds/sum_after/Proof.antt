@@ -2,19 +2,13 @@ use mathlib.Core.Path.{sym}
 use borrow.Author.Needs.{needs}
 use Rattle.block.proofs.seeds.sum_after.Statement.{statement}
 use Rattle.block.proofs.seeds.sum_after.Tie as tie
-use Rattle.block.proofs.seeds.sum_after.Reads as reads
-use Rattle.block.proofs.seeds.sum_after.Lts as lts
-use Rattle.block.proofs.seeds.takes_seed.Reads as takes-seed-reads
 
--- src/seeds.rt:32:8
 takes-seed-requires : tie.Need-takes-seed-requires
 takes-seed-requires c κs = search needs
 
--- src/seeds.rt:33:9
 returns : tie.Need-returns
 returns c = rw (sym (c .before .takes-seed .ensures), c .if1 .taken)
 
--- src/seeds.rt:29:1
 returns-2 : tie.Need-returns-2
 returns-2 c = rw (sym (c .before .takes-seed .ensures), c .if1 .left)
 
