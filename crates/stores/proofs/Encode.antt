@@ -4,8 +4,8 @@ use mathlib.Core.Path.{_≡_, refl, sym, ap, _∙_}
 use mathlib.Core.List.{List, [], _∷_, _++_, map}
 use Prim.Native.Nat.{ℕ, _+_, _*_, _<_, _≤_}
 use native.Mathlib.Omega.{arith}
-use lib.ListN.{length, getD, take, drop, set, length-drop, take-append-drop}
-use lib.Seq.{take-all, drop-drop, getD-drop}
+use lib.ListN.{length, getD, drop, set, length-drop}
+use lib.Seq.{take-all}
 use lib.Ieee.{Float}
 use Rattle.laws.specs.Lists.{part, splice, tab, joined}
 use Rattle.laws.proofs.Lists.{length-part, part-mid, splice-mid, row}
@@ -13,25 +13,7 @@ use Rattle.laws.proofs.Tabs.{tab-ext, map-tab}
 use Rattle.laws.proofs.Joined.{joined-parts, part-joined, parts-meet, part-skip, splice-skip, part-last, splice-last}
 use Rattle.model.specs.Bank.{blocks}
 use Rattle.model.specs.Stores.{chanU, chanOf, bankU, bankF, bankOf, base, chanPart, bankLen, bankFLen}
-
-three : (t : List ℕ) → length t ≡ 3 → t ≡ getD t 0 0 ∷ getD t 1 0 ∷ getD t 2 0 ∷ []
-three [] e = absurd (omega arith)
-three (a ∷ []) e = absurd (omega arith)
-three (a ∷ b ∷ []) e = absurd (omega arith)
-three (a ∷ b ∷ c ∷ []) e = refl
-three (a ∷ b ∷ c ∷ d ∷ t) e = absurd (omega arith)
-
-chan-forth : (l : List ℕ) → length l ≡ 533 → chanU (chanOf l) ≡ l
-chan-forth l e =
-    ap (λ (x : List ℕ). take 250 l ++ x)
-    (ap (λ (x : List ℕ). take 280 (drop 250 l) ++ x) (sym end ∙ sym (drop-drop 280 250 l))
-    ∙ take-append-drop 280 (drop 250 l))
-    ∙ take-append-drop 250 l
-  where
-    end : drop 530 l ≡ getD l 530 0 ∷ getD l 531 0 ∷ getD l 532 0 ∷ []
-    end =
-        three (drop 530 l) (omega (arith, length-drop 530 l))
-        ∙ (λ i. getD-drop 530 l 0 0 i ∷ getD-drop 530 l 1 0 i ∷ getD-drop 530 l 2 0 i ∷ [])
+use Rattle.ring.proofs.Stored.{chan-forth}
 
 -- ---- a store of the right length is its bank's
 

@@ -1,1 +1,3 @@
 pub mod Good
+pub mod Fails
+pub mod Checks

@@ -1,0 +1,26 @@
+-- How many tests fail: what the store's test counts, in loops that never leave early.
+use mathlib.Core.Bool.{Bool, not}
+use mathlib.Core.List.{List}
+use Prim.Native.Nat.{ℕ, zero, suc, _+_}
+use lib.Dec.{eqb, ltb}
+use lib.ListN.{getD}
+use Rattle.laws.specs.Lists.{one}
+
+-- of how many numbers below n the test fails
+unfoldable pub fails : ℕ → (ℕ → Bool) → ℕ
+fails zero p = 0
+fails (suc n) p = fails n p + one (not (p n))
+
+-- the entries of a channel's ring that are no bins
+abbrev pub isBin : List ℕ → ℕ → Bool
+isBin l i = ltb (getD l i 0) 280
+
+unfoldable pub strayEntries : List ℕ → ℕ
+strayEntries l = fails 250 (isBin l)
+
+-- the counts of a channel that differ from a tally
+abbrev pub isTallied : List ℕ → List ℕ → ℕ → Bool
+isTallied l t b = eqb (getD l (250 + b) 0) (getD t b 0)
+
+unfoldable pub wrongCounts : List ℕ → List ℕ → ℕ
+wrongCounts l t = fails 280 (isTallied l t)
