@@ -1,12 +1,13 @@
 -- The bank update in the steps that the code takes: each is a bank with one or two of its lists replaced.
 -- `stepped` in proofs/Laws.antt shows that together they are `bankStep`.
 use mathlib.Core.Path.{_≡_}
-use mathlib.Core.List.{List}
-use Prim.Native.Nat.{ℕ, _+_, _%_}
-use lib.ListN.{getD}
+use mathlib.Core.Bool.{Bool}
+use mathlib.Core.List.{List, []}
+use Prim.Native.Nat.{ℕ, _+_, _%_, _<_, _≤_}
+use lib.ListN.{getD, length, set}
 use lib.Ieee.{Float}
 use Rattle.model.specs.Ring.{ChannelFloor}
-use Rattle.model.specs.Bank.{FloorBank, Hop, smoothAfter, seedsAfter, sumsAfter, chansAfter, rawFloors, usableFloors, blockFloors, riseFloors}
+use Rattle.model.specs.Bank.{FloorBank, hop, smoothAfter, seedsAfter, sumsAfter, chansAfter, rawFloors, usableFloors, blockFloors, riseFloors}
 use Rattle.model.specs.Stores.{bankU, bankF}
 
 -- the bank with these lists
@@ -26,8 +27,8 @@ with b seeds′ chans′ raw′ usable′ smooth′ rise′ blockFloor′ seedSu
       seedSum = seedSum′;
     }
 
-unfoldable pub smoothStep : Hop → FloorBank → FloorBank
-smoothStep h b = with b (b .seeds) (b .chans) (b .raw) (b .usable) (smoothAfter b h) (b .rise) (b .blockFloor) (b .seedSum)
+unfoldable pub smoothStep : Bool → List Float → FloorBank → FloorBank
+smoothStep held power b = with b (b .seeds) (b .chans) (b .raw) (b .usable) (smoothAfter b (hop held [] power)) (b .rise) (b .blockFloor) (b .seedSum)
 
 unfoldable pub seedStep : List Float → FloorBank → FloorBank
 seedStep db b = with b (seedsAfter b db) (b .chans) (b .raw) (b .usable) (b .smooth) (b .rise) (b .blockFloor) (sumsAfter b db)
@@ -74,3 +75,11 @@ phaseStep b =
 pub record Holds (b : FloorBank) (u : List ℕ) (f : List Float) : Type 0 where
   pub u16s : u ≡ bankU b
   pub floats : f ≡ bankF b
+
+-- the header's phase and started, as the code writes them
+abbrev pub advanced : List ℕ → List ℕ
+advanced u = set (set u 1 ((getD u 1 0 + 1) % 15)) 2 1
+
+pub record Headed (u : List ℕ) : Type 0 where
+  pub long : 3 ≤ length u
+  pub phase : getD u 1 0 < 15
