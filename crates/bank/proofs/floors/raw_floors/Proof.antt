@@ -14,9 +14,6 @@ use Rattle.model.specs.Stores.{chanOf, chanPart, base}
 use Rattle.bank.proofs.Loops.{Fits, fits, lent, lent-long, raw-done}
 use Rattle.bank.proofs.floors.raw_floors.Statement.{statement}
 use Rattle.bank.proofs.floors.raw_floors.Tie as tie
-use Rattle.bank.proofs.floors.raw_floors.Reads as reads
-use Rattle.bank.proofs.floors.raw_floors.Lts as lts
-use Rattle.bank.proofs.x_quartile.raw_floor.Reads as raw-floor-reads
 
 abbrev rawOf : List ℕ → ℕ → ℕ → Float
 rawOf u n k = rawFloor (chanOf (chanPart n u k))

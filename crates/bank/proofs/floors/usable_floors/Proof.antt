@@ -14,9 +14,6 @@ use Rattle.model.specs.Stores.{chanOf, chanPart, base}
 use Rattle.bank.proofs.Loops.{Fits, fits, lent, lent-long, usable-done, raw-at}
 use Rattle.bank.proofs.floors.usable_floors.Statement.{statement}
 use Rattle.bank.proofs.floors.usable_floors.Tie as tie
-use Rattle.bank.proofs.floors.usable_floors.Reads as reads
-use Rattle.bank.proofs.floors.usable_floors.Lts as lts
-use Rattle.bank.proofs.x_quartile.usable_floor.Reads as usable-floor-reads
 
 abbrev usableOf : List ℕ → ℕ → ℕ → Float
 usableOf u n k = usableFloor (chanOf (chanPart n u k))

@@ -1,17 +1,28 @@
+use mathlib.Core.Path.{_≡_, refl, sym, ap, subst, _∙_}
+use mathlib.Core.List.{List}
+use Prim.Native.Nat.{ℕ, _+_, _-_, _*_, _/_, _≤_, _<_}
+use native.Mathlib.Nat.{le-antisymm}
+use native.Mathlib.Omega.{arith}
+use lib.ListN.{length, getD, length-set}
+use lib.Ieee.{Float, nan}
 use borrow.Author.Needs.{needs}
+use Rattle.laws.specs.Lists.{splice, tab, joined}
+use Rattle.laws.proofs.Tabs.{parts-begin}
+use Rattle.model.specs.Stores.{base}
+use Rattle.bank.proofs.Loops.{Fits, fits, pushedOf, turn-asks, turn-done, turn-long, push-done}
 use Rattle.bank.proofs.pushes.push_all.Statement.{statement}
 use Rattle.bank.proofs.pushes.push_all.Tie as tie
-use Rattle.bank.proofs.pushes.push_all.Reads as reads
-use Rattle.bank.proofs.pushes.push_all.Lts as lts
-use Rattle.bank.proofs.pushes.push_at.Reads as push-at-reads
 
 abbrev Inv-loop : tie.InvT-loop
-Inv-loop bank₀ bank-f power-db n base k₀ bank k = ?
+Inv-loop bank₀ bank-f power-db n a k₀ bank k = (k ≤ n) × (bank ≡ splice a (533 * k) bank₀ (joined (tab k (pushedOf bank₀ power-db n)))) × (length bank ≡ length bank₀)
 
 abbrev μ-loop : tie.MeasureT-loop
-μ-loop bank₀ bank-f power-db n base k₀ bank k = ?
+μ-loop bank₀ bank-f power-db n a k₀ bank k = n - k
 
 -- src/pushes.rt:29:21
+fit : (s : tie.Start Inv-loop μ-loop) → Fits (s .args .bank .now) (s .args .bank-f .now) (length (s .args .power-db .now))
+fit s = fits (s .args .bank .now) (s .args .bank-f .now) (length (s .args .power-db .now)) (s .pre .0) (s .pre .1)
+
 add-base : tie.Need-add-base Inv-loop μ-loop
 add-base c = search needs
 
@@ -21,7 +32,10 @@ add-base-2 c = search needs
 
 -- src/pushes.rt:31:5
 loop-holds : tie.Need-loop-holds Inv-loop μ-loop
-loop-holds c = search needs
+loop-holds c =
+    let s = c .before .before .before in
+    let db = s .args .power-db .now in
+    (search needs, parts-begin (base (length db)) 533 (s .args .bank .now) (pushedOf (s .args .bank .now) db (length db)), refl)
 
 -- src/pushes.rt:32:31
 add-quiet : tie.Need-add-quiet Inv-loop μ-loop
@@ -53,7 +67,11 @@ shared-slice-read-push-at c = search needs
 
 -- src/pushes.rt:33:9
 push-at-requires : tie.Need-push-at-requires Inv-loop μ-loop
-push-at-requires c κs = search needs
+push-at-requires c κs =
+    let l = c .before .before .before .before in
+    let s = l .before .before .before .before in
+    let db = s .args .power-db .now in
+    turn-asks (s .args .bank .now) (s .args .bank-f .now) (length db) (fit s) db (l .loop .k) (c .before .before .before .loop-test .taken) (l .loop .bank) (l .loop .inv .1)
 
 -- src/pushes.rt:34:9
 add-k : tie.Need-add-k Inv-loop μ-loop
@@ -65,7 +83,14 @@ loop-less c = search needs
 
 -- src/pushes.rt:31:5
 loop-again : tie.Need-loop-again Inv-loop μ-loop
-loop-again c = search needs
+loop-again c =
+    let p = c .before .before in
+    let l = p .before .before .before .before .before in
+    let s = l .before .before .before .before in
+    let db = s .args .power-db .now in
+    let h = p .before .before .before .before .loop-test .taken in
+    let d = turn-done (s .args .bank .now) (s .args .bank-f .now) (length db) (fit s) db (l .loop .k) h (l .loop .bank) (l .loop .inv .1) (p .push-at .last .0) (p .push-at .ensures) in
+    (omega arith, d, search needs)
 
 -- src/pushes.rt:24:1
 same-length : tie.Need-same-length Inv-loop μ-loop
@@ -73,7 +98,13 @@ same-length c = search needs
 
 -- src/pushes.rt:24:1
 returns : tie.Need-returns Inv-loop μ-loop
-returns c = search needs
+returns c =
+    let l = c .before in
+    let s = l .before .before .before .before in
+    let u = s .args .bank .now in
+    let db = s .args .power-db .now in
+    push-done u (s .args .bank-f .now) (s .pre .0) (length db) (s .pre .1) db refl (l .loop .bank)
+    (l .loop .inv .1 ∙ ap (λ (k : ℕ). splice (base (length db)) (533 * k) u (joined (tab k (pushedOf u db (length db))))) (le-antisymm (l .loop .inv .0) (c .loop-test .left)))
 
 pub push-all-spec : {M : Type 1} → statement M
 push-all-spec =

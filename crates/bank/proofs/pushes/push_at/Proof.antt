@@ -1,10 +1,9 @@
+use native.Mathlib.Omega.{arith}
 use borrow.Author.Needs.{needs}
+use Rattle.laws.proofs.Lists.{width, length-part}
+use Rattle.ring.proofs.Floats.{bin-below}
 use Rattle.bank.proofs.pushes.push_at.Statement.{statement}
 use Rattle.bank.proofs.pushes.push_at.Tie as tie
-use Rattle.bank.proofs.pushes.push_at.Reads as reads
-use Rattle.bank.proofs.pushes.push_at.Lts as lts
-use Rattle.bank.proofs.x_ring.bin_index.Reads as bin-index-reads
-use Rattle.bank.proofs.x_ring.push.Reads as push-reads
 
 -- src/pushes.rt:18:9
 bin-index-requires : tie.Need-bin-index-requires
@@ -32,7 +31,10 @@ part-push-end c = search needs
 
 -- src/pushes.rt:20:5
 push-requires : tie.Need-push-requires
-push-requires c κs = ?
+push-requires c κs =
+    let s = c .before .before .before in
+    let b = c .before .bin-index .ensures in
+    rw (width (s .args .a) 533) ((length-part (s .args .a) 533 (s .args .bank .now) (s .pre .0), s .pre .1), omega (arith, b, bin-below (s .args .p)))
 
 -- src/pushes.rt:13:1
 same-length : tie.Need-same-length
@@ -40,7 +42,10 @@ same-length c = search needs
 
 -- src/pushes.rt:13:1
 returns : tie.Need-returns
-returns c = ?
+returns c =
+    let u = c .before .before in
+    let s = u .before .before .before .before in
+    simp (width (s .args .a) 533, u .push .ensures, u .before .before .bin-index .ensures)
 
 pub push-at-spec : {M : Type 1} → statement M
 push-at-spec =
