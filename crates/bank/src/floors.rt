@@ -62,7 +62,13 @@ pub fn rise_floors(bank_f: &mut [f64], bank: &[u16], n: usize)
         let a = base + 533 * k;
         let e = a + 533;
         let since = ring::since(&bank[a..e]);
-        let floor = block::rise_floor(bank_f[n + k], bank_f[4 * n + i], since, bank[3 + i], bank_f[4 * n + blocks + i]);
+        let floor = block::rise_floor(
+            bank_f[n + k],
+            bank_f[4 * n + i],
+            since,
+            bank[3 + i],
+            bank_f[4 * n + blocks + i],
+        );
         bank_f[3 * n + k] = floor;
         k += 1;
     }

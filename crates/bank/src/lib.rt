@@ -53,7 +53,13 @@ fn advance(bank: &mut [u16])
 }
 
 // One hop that is not refused.
-fn take_hop(bank: &mut [u16], bank_f: &mut [f64], power_db: &[f64], power: &[f32], hold_reference: bool)
+fn take_hop(
+    bank: &mut [u16],
+    bank_f: &mut [f64],
+    power_db: &[f64],
+    power: &[f32],
+    hold_reference: bool,
+)
     requires { ⌜ Ready (now bank) (now «bank_f») × (length (now «power_db») ≡ getD (now bank) 0 0) × (length (now power) ≡ getD (now bank) 0 0) ⌝ }
     ensures { λ _. ⌜ Holds (bankStep (bankOf (now (bank .entry)) (now («bank_f» .entry))) (hop «hold_reference» (now («power_db» .entry)) (now (power .entry)))) (now (bank .exit)) (now («bank_f» .exit)) ⌝ }
 {
@@ -67,7 +73,13 @@ fn take_hop(bank: &mut [u16], bank_f: &mut [f64], power_db: &[f64], power: &[f32
 }
 
 // One hop's dB and linear power of each channel; with `hold_reference` the smoothed powers stay as they are.
-pub fn bank_update_holding_reference(bank: &mut [u16], bank_f: &mut [f64], power_db: &[f64], power: &[f32], hold_reference: bool) -> u16
+pub fn bank_update_holding_reference(
+    bank: &mut [u16],
+    bank_f: &mut [f64],
+    power_db: &[f64],
+    power: &[f32],
+    hold_reference: bool,
+) -> u16
     ensures { λ r. ⌜ (r, now (bank .exit), now («bank_f» .exit)) ≡ bankUpdate (now (bank .entry)) (now («bank_f» .entry)) (hop «hold_reference» (now («power_db» .entry)) (now (power .entry))) ⌝ }
 {
     let refusal = stores::update_refusal(bank, bank_f, power_db, power);
