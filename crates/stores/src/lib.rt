@@ -1,4 +1,5 @@
 // Document 01, "Stores": the soundness test of a lent bank, the refusals in their order, and a fresh bank.
+pub mod making;
 pub mod sound;
 
 ghost use mathlib.Core.Path.{_≡_};
