@@ -7,10 +7,9 @@ use native.Mathlib.Omega.{arith}
 use lib.ListN.{length, drop, set, replicate, length-append, length-drop, length-replicate, replicate-append-replicate}
 use lib.Ieee.{Float}
 use lib.Seq.{drop-length}
-use Rattle.laws.specs.Lists.{splice, tabFrom, tab, joined}
+use Rattle.laws.specs.Lists.{splice, tabFrom, joined}
 use Rattle.laws.proofs.Lists.{splice-mid}
 use Rattle.laws.proofs.Tabs.{fill-turns}
-use Rattle.model.specs.Ring.{ChannelFloor}
 use Rattle.model.specs.Bank.{blocks, freshChannel, freshBank}
 use Rattle.model.specs.Stores.{chanU, bankU, bankF, bankLen, bankFLen}
 use Rattle.model.specs.Numbers.{f0, histMin, freshPower}

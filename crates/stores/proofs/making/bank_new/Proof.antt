@@ -1,19 +1,14 @@
-use Prim.Native.Nat.{ℕ}
 use mathlib.Core.Path.{sym, ap₂, _∙_}
 use mathlib.Core.List.{List}
+use Prim.Native.Nat.{ℕ}
 use native.Mathlib.Omega.{arith}
 use lib.ListN.{length}
 use lib.Ieee.{Float}
+use borrow.Author.Needs.{needs}
 use Rattle.stores.proofs.Sizes.{Fits, fit}
 use Rattle.stores.proofs.Makes.{new-refused, new-made}
-use borrow.Author.Needs.{needs}
 use Rattle.stores.proofs.making.bank_new.Statement.{statement}
 use Rattle.stores.proofs.making.bank_new.Tie as tie
-use Rattle.stores.proofs.making.bank_new.Reads as reads
-use Rattle.stores.proofs.making.bank_new.Lts as lts
-use Rattle.stores.proofs.making.fresh_f.Reads as fresh-f-reads
-use Rattle.stores.proofs.making.fresh_u.Reads as fresh-u-reads
-use Rattle.stores.proofs.size_refusal.Reads as size-refusal-reads
 
 abbrev start : tie.Else1 → tie.Start
 start e = e .before .before .before .before
@@ -22,38 +17,30 @@ sized : (e : tie.Else1) → Fits (length (start e .args .bank .now)) (length (st
 sized e = let s = start e in
     fit 1 (length (s .args .bank .now)) (length (s .args .bank-f .now)) (s .args .n) (omega arith) (sym (e .before .size-refusal .ensures) ∙ e .if1 .left)
 
--- src/making.rt:53:9
 size-refusal-requires : tie.Need-size-refusal-requires
 size-refusal-requires c κs = search needs
 
--- src/making.rt:55:9
 returns : tie.Need-returns
 returns c = let z = c .before in
     let s = z .before .before .before in
     new-refused (s .args .bank .now) (s .args .bank-f .now) (s .args .n) _ (z .size-refusal .ensures) (c .if1 .taken)
 
--- src/making.rt:57:19
 cast-fresh-u : tie.Need-cast-fresh-u
 cast-fresh-u c = omega (arith, sized (c .before) .high)
 
--- src/making.rt:57:5
 fresh-u-requires : tie.Need-fresh-u-requires
 fresh-u-requires c κs = sized (c .before) .long
 
--- src/making.rt:58:5
 fresh-f-requires : tie.Need-fresh-f-requires
 fresh-f-requires c κs = let g = sized (c .before .before .before .before .before) in
     (g .high, g .long-f)
 
--- src/making.rt:50:1
 same-length : tie.Need-same-length
 same-length c = search needs
 
--- src/making.rt:50:1
 same-length-2 : tie.Need-same-length-2
 same-length-2 c = search needs
 
--- src/making.rt:50:1
 returns-2 : tie.Need-returns-2
 returns-2 c = let f = c .before .before in
     let u = f .before .before .before .before in
