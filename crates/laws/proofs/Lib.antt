@@ -1,4 +1,5 @@
 pub mod Tests
 pub mod Lists
 pub mod Tabs
+pub mod Joined
 pub mod Floats

@@ -1,2 +1,149 @@
 // Document 01, "Ring and quartile": the bin of a dB value and the push into a channel's ring.
-pub fn nothing() {}
+ghost use mathlib.Core.Path.{_≡_};
+ghost use mathlib.Core.Bool.{_&&_, true};
+ghost use Prim.Native.Nat.{_+_, _-_, _%_, _<_, _≤_, min};
+ghost use lib.Dec.{eqb};
+ghost use lib.ListN.{length, getD};
+ghost use Rattle.laws.specs.Lists.{one};
+ghost use Rattle.model.specs.Ring.{binOf, centreOf, oldest, pushIn};
+ghost use Rattle.model.specs.Stores.{chanU, chanOf};
+ghost use Rattle.ring.specs.Sound.{Sound};
+ghost use Rattle.ring.specs.Push.{roomed, entered, Roomy};
+
+// A channel's 533 entries: 250 ring, 280 counts, next place, filled, lead.
+const RING_LEN: u16 = 250;
+
+const COUNTS: usize = 250;
+
+const NEXT: usize = 530;
+
+const FILLED: usize = 531;
+
+const LEAD: usize = 532;
+
+// 280 bins, 0.5 dB wide, from -140 dB on. The sum is rounded before it is divided: -0.5 and the f64 next below it both fall in bin 279.
+pub fn bin_index(p: f64) -> u16
+    ensures { λ r. ⌜ r ≡ binOf p ⌝ }
+{
+    let y = p + 140.0;
+    let z = y / 0.5;
+    if z >= 0.0 {
+        if z < 280.0 {
+            std::num::truncating_f64_to_u64(z) as u16
+        } else {
+            279
+        }
+    } else {
+        0
+    }
+}
+
+pub fn bin_centre(b: u16) -> f64
+    ensures { λ r. ⌜ r ≡ centreOf b ⌝ }
+{
+    -140.0 + ((b as f64) + 0.5) * 0.5
+}
+
+fn wide(x: u16) -> usize
+    ensures { λ r. ⌜ r ≡ x ⌝ }
+{
+    x as usize
+}
+
+// A count is a u8 in floor.rs, and stays at 255.
+fn one_more(count: u16) -> u16
+    ensures { λ r. ⌜ r ≡ min (count + 1) 255 ⌝ }
+{
+    if count < 255 { count + 1 } else { 255 }
+}
+
+fn one_less(count: u16) -> u16
+    ensures { λ r. ⌜ r ≡ count - 1 ⌝ }
+{
+    if count == 0 { 0 } else { count - 1 }
+}
+
+fn next_place(next: u16) -> u16
+    requires { ⌜ next < 250 ⌝ }
+    ensures { λ r. ⌜ r ≡ (next + 1) % 250 ⌝ }
+{
+    (next + 1) % RING_LEN
+}
+
+// The lead that is left once `evicted` has gone.
+fn lead_left(lead: u16, evicted: u16) -> u16
+    ensures { λ r. ⌜ r ≡ lead - one (eqb 0 evicted) ⌝ }
+{
+    if evicted == 0 { one_less(lead) } else { lead }
+}
+
+// By how much the lead rises: a bin 0 in a block that has no seed push.
+fn lead_rise(bin: u16, quiet: bool) -> u16
+    ensures { λ r. ⌜ (r ≡ one (quiet && eqb 0 bin)) × (r ≤ 1) ⌝ }
+{
+    if !quiet {
+        return 0;
+    }
+    if bin == 0 { 1 } else { 0 }
+}
+
+// The bin at the next place: the oldest, once the ring is full.
+fn oldest_bin(chan: &[u16]) -> u16
+    requires { ⌜ (length (now chan) ≡ 533) × Sound 250 280 (chanOf (now chan)) ⌝ }
+    ensures { λ r. ⌜ (r ≡ oldest (chanOf (now (chan .entry)))) × (r < 280) ⌝ }
+{
+    let next = wide(chan[NEXT]);
+    chan[next]
+}
+
+// The oldest is counted no more.
+fn evict(chan: &mut [u16])
+    requires { ⌜ (length (now chan) ≡ 533) × Sound 250 280 (chanOf (now chan)) ⌝ }
+    ensures { λ _. ⌜ now (chan .exit) ≡ chanU (roomed true (chanOf (now (chan .entry)))) ⌝ }
+{
+    let oldest = oldest_bin(chan);
+    let at = COUNTS + wide(oldest);
+    let count = chan[at];
+    let lead = chan[LEAD];
+    chan[at] = one_less(count);
+    chan[LEAD] = lead_left(lead, oldest);
+}
+
+fn make_room(chan: &mut [u16])
+    requires { ⌜ (length (now chan) ≡ 533) × Sound 250 280 (chanOf (now chan)) ⌝ }
+    ensures { λ _. ⌜ now (chan .exit) ≡ chanU (roomed (eqb (getD (now (chan .entry)) 531 0) 250) (chanOf (now (chan .entry)))) ⌝ }
+{
+    let filled = chan[FILLED];
+    if filled == RING_LEN {
+        evict(chan);
+    } else {
+        chan[FILLED] = filled + 1;
+    }
+}
+
+// The bin goes to the next place and is counted.
+fn enter(chan: &mut [u16], bin: u16, rise: u16)
+    requires { ⌜ Roomy (now chan) ⌝ }
+    requires { ⌜ (bin < 280) × (rise ≤ 1) ⌝ }
+    ensures { λ _. ⌜ now (chan .exit) ≡ chanU (entered (chanOf (now (chan .entry))) bin rise) ⌝ }
+{
+    let next = chan[NEXT];
+    let place = wide(next);
+    let at = COUNTS + wide(bin);
+    let count = chan[at];
+    let lead = chan[LEAD];
+    chan[place] = bin;
+    chan[at] = one_more(count);
+    chan[NEXT] = next_place(next);
+    chan[LEAD] = lead + rise;
+}
+
+// One entry into a channel's ring, as a slow hop makes it; `quiet` says that the channel's block has no seed push.
+pub fn push(chan: &mut [u16], bin: u16, quiet: bool)
+    requires { ⌜ (length (now chan) ≡ 533) × Sound 250 280 (chanOf (now chan)) ⌝ }
+    requires { ⌜ bin < 280 ⌝ }
+    ensures { λ _. ⌜ now (chan .exit) ≡ chanU (pushIn 250 quiet (chanOf (now (chan .entry))) bin) ⌝ }
+{
+    make_room(chan);
+    enter(chan, bin, lead_rise(bin, quiet));
+}

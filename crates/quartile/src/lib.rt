@@ -1,0 +1,73 @@
+// Document 01, "Ring and quartile": a channel's floors, the lower quartile of its ring by nearest rank.
+ghost use mathlib.Core.Path.{_≡_};
+ghost use Prim.Native.Nat.{_≤_, _<_};
+ghost use lib.ListN.{length, getD};
+ghost use Rattle.model.specs.Ring.{centreOf, entries, smallest, quartile, rawFloor, usableFloor};
+ghost use Rattle.model.specs.Stores.{chanOf};
+ghost use Rattle.ring.specs.Sound.{Sound};
+
+fn wide(x: u16) -> usize
+    ensures { λ r. ⌜ r ≡ x ⌝ }
+{
+    x as usize
+}
+
+fn centre(b: u16) -> f64
+    ensures { λ r. ⌜ r ≡ centreOf b ⌝ }
+{
+    -140.0 + ((b as f64) + 0.5) * 0.5
+}
+
+// The bin of the rank-th smallest entry: the first at which the counts so far come to rank.
+fn ranked_bin(chan: &[u16], rank: usize) -> u16
+    requires { ⌜ (length (now chan) ≡ 533) × Sound 250 280 (chanOf (now chan)) ⌝ }
+    requires { ⌜ (0 < rank) × (rank ≤ getD (now chan) 531 0) ⌝ }
+    ensures { λ r. ⌜ r ≡ smallest rank (entries (chanOf (now (chan .entry)))) ⌝ }
+{
+    let mut passed: usize = 0;
+    let mut b: usize = 0;
+    while b < 280 {
+        passed += wide(chan[250 + b]);
+        if passed >= rank {
+            return b as u16;
+        }
+        b += 1;
+    }
+    279
+}
+
+// Entries of bin 0 are the smallest, so to leave `skip` of them out is to look `skip` ranks further on.
+fn quartile(chan: &[u16], skip: usize) -> f64
+    requires { ⌜ (length (now chan) ≡ 533) × Sound 250 280 (chanOf (now chan)) ⌝ }
+    requires { ⌜ skip ≤ getD (now chan) 250 0 ⌝ }
+    ensures { λ r. ⌜ r ≡ quartile skip (chanOf (now (chan .entry))) ⌝ }
+{
+    let left = wide(chan[531]) - skip;
+    if left == 0 {
+        return -140.0;
+    }
+    centre(ranked_bin(chan, skip + (left + 3) / 4))
+}
+
+pub fn raw_floor(chan: &[u16]) -> f64
+    requires { ⌜ (length (now chan) ≡ 533) × Sound 250 280 (chanOf (now chan)) ⌝ }
+    ensures { λ r. ⌜ r ≡ rawFloor (chanOf (now (chan .entry))) ⌝ }
+{
+    quartile(chan, 0)
+}
+
+// `raw` is the channel's raw floor: with nothing to skip, it is the usable floor too, and no second scan is due.
+pub fn usable_floor(chan: &[u16], raw: f64) -> f64
+    requires { ⌜ (length (now chan) ≡ 533) × Sound 250 280 (chanOf (now chan)) ⌝ }
+    requires { ⌜ raw ≡ rawFloor (chanOf (now chan)) ⌝ }
+    ensures { λ r. ⌜ r ≡ usableFloor (chanOf (now (chan .entry))) ⌝ }
+{
+    let lead = chan[532];
+    if lead == 0 {
+        return raw;
+    }
+    if lead == chan[531] {
+        return raw;
+    }
+    quartile(chan, wide(lead))
+}

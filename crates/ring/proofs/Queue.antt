@@ -1,0 +1,122 @@
+-- Lists as queues: how often a number occurs, the newest j entries and the older ones, and the window of a ring, oldest entry first.
+-- Assumes nothing.
+use mathlib.Core.Path.{_≡_, refl, sym, ap, _∙_, subst}
+use mathlib.Core.List.{List, [], _∷_, _++_, append-assoc, append-nil}
+use mathlib.Core.Bool.{Bool, true, false}
+use Prim.Native.Nat.{ℕ, zero, suc, _+_, _-_, _≤_, _<_, _*_, _%_, min}
+use native.Mathlib.Nat.{zero-add, mod-eq-of-lt, mod-self}
+use native.Mathlib.Numerals.{add-one}
+use native.Mathlib.Decide.{decLt}
+use native.Mathlib.Omega.{arith}
+use lib.ListN.{length, getD, set, take, drop, length-append, length-take, length-drop, length-set, take-append-drop, drop-of-length-le}
+use lib.Seq.{take-all, take-suc-set, drop-cons, drop-set-lt, drop-append-le, drop-append-add, take-append-le, drop-drop, length-take-le, take-take}
+use lib.Dec.{eqb}
+use Rattle.laws.specs.Lists.{one, occ}
+
+-- ---- how often x occurs in a list
+
+pub occ-append : (x : ℕ) (s t : List ℕ) → occ x (s ++ t) ≡ occ x s + occ x t
+occ-append x [] t = sym (zero-add (occ x t))
+occ-append x (y ∷ ys) t = omega (arith, occ-append x ys t)
+
+pub one-le : (b : Bool) → one b ≤ 1
+one-le true = omega arith
+one-le false = omega arith
+
+pub occ-le : (x : ℕ) (s : List ℕ) → occ x s ≤ length s
+occ-le x [] = omega arith
+occ-le x (y ∷ ys) = omega (arith, occ-le x ys, one-le (eqb x y))
+
+-- ---- the newest j entries of a queue, and the others
+
+abbrev pub newest : ℕ → List ℕ → List ℕ
+newest j w = drop (length w - j) w
+
+abbrev pub older : ℕ → List ℕ → List ℕ
+older j w = take (length w - j) w
+
+pub newest-all : (j : ℕ) (w : List ℕ) → length w ≤ j → newest j w ≡ w
+newest-all j w h = ap (λ (k : ℕ). drop k w) (let e : length w - j ≡ 0 = omega arith in e)
+
+pub newest-snoc : (j : ℕ) (w : List ℕ) (b : ℕ) → newest (suc j) (w ++ (b ∷ [])) ≡ newest j w ++ (b ∷ [])
+newest-snoc j w b =
+    ap (λ (k : ℕ). drop k (w ++ (b ∷ []))) (let e : length (w ++ (b ∷ [])) - suc j ≡ length w - j = omega (arith, length-append w (b ∷ [])) in e)
+    ∙ drop-append-le (length w - j) w (b ∷ []) (omega arith)
+
+pub newest-newest : (a b : ℕ) (w : List ℕ) → newest a (newest b w) ≡ newest (min a b) w
+newest-newest a b w =
+    drop-drop (length (newest b w) - a) (length w - b) w
+    ∙ ap (λ (k : ℕ). drop k w)
+    (let e : (length w - b) + (length (newest b w) - a) ≡ length w - min a b = omega (arith, length-drop (length w - b) w) in e)
+
+-- a window of R: the newest j of it after one more entry hang on the newest j before it
+pub newest-step : (R j : ℕ) (w : List ℕ) (b : ℕ) → newest (suc j) (newest R (w ++ (b ∷ []))) ≡ newest R (newest j w ++ (b ∷ []))
+newest-step R j w b =
+    newest-newest (suc j) R (w ++ (b ∷ []))
+    ∙ ap (λ (k : ℕ). newest k (w ++ (b ∷ []))) (let e : min (suc j) R ≡ min R (suc j) = omega arith in e)
+    ∙ sym (newest-newest R (suc j) (w ++ (b ∷ [])))
+    ∙ ap (newest R) (newest-snoc j w b)
+
+-- ---- a ring: its next place n, f places filled, oldest entry first
+
+abbrev pub win : ℕ → ℕ → List ℕ → List ℕ
+win n f r = drop n (take f r) ++ take n r
+
+pub win-start : (n : ℕ) (r : List ℕ) → n ≤ length r → win n n r ≡ take n r
+win-start n r h = rw (drop-of-length-le (take n r) {i = n} (omega (arith, length-take n r)))
+
+pub win-zero : (f : ℕ) (r : List ℕ) → win 0 f r ≡ take f r
+win-zero f r = append-nil (take f r)
+
+pub length-win : (n f : ℕ) (r : List ℕ) → n ≤ f → f ≤ length r → length (win n f r) ≡ f
+length-win n f r h k =
+    omega (arith, length-append (drop n (take f r)) (take n r), length-drop n (take f r), length-take f r, length-take n r)
+
+-- the window has the same entries as the filled places
+pub occ-win : (x n f : ℕ) (r : List ℕ) → n ≤ f → f ≤ length r → occ x (win n f r) ≡ occ x (take f r)
+occ-win x n f r h k =
+    let t : take n r ≡ take n (take f r) = sym (take-take n f r h) in
+    omega
+    (arith, occ-append x (drop n (take f r)) (take n r), ap (occ x) t, occ-append x (take n (take f r)) (drop n (take f r)), ap (occ x) (take-append-drop n (take f r)))
+
+module _ (R n : ℕ) (r : List ℕ) (len : length r ≡ R) (lt : n < R) (b : ℕ) where
+  -- the next place: the one after, or the first
+  next-on : suc n < R → (n + 1) % R ≡ suc n
+  next-on h = rw add-one (mod-eq-of-lt h)
+
+  next-end : suc n ≡ R → (n + 1) % R ≡ 0
+  next-end h = rw (add-one, h) (mod-self R)
+
+  front : take (suc n) (set r n b) ≡ take n r ++ (b ∷ [])
+  front = take-suc-set r n b (omega arith)
+
+  -- a push into a ring that is not full
+  pub win-part : win ((n + 1) % R) (suc n) (set r n b) ≡ win n n r ++ (b ∷ [])
+  win-part = go (decLt (suc n) R)
+    where
+      before : win n n r ≡ take n r
+      before = win-start n r (omega arith)
+
+      go : Dec (suc n < R) → win ((n + 1) % R) (suc n) (set r n b) ≡ win n n r ++ (b ∷ [])
+      go (yes h) = rw (next-on h, win-start (suc n) (set r n b) (omega (arith, length-set r n b)), before) front
+      go (no h) = rw (next-end (omega arith), win-zero (suc n) (set r n b), before) front
+
+  -- a push into a full ring: the oldest entry goes
+  pub kept : List ℕ
+  kept = drop (suc n) r ++ take n r
+
+  pub win-full : win n R r ≡ getD r n 0 ∷ kept
+  unfolding kept
+  win-full = rw (take-all R r (omega arith), drop-cons r n 0 (omega arith))
+
+  pub win-pushed : win ((n + 1) % R) R (set r n b) ≡ kept ++ (b ∷ [])
+  unfolding kept
+  win-pushed = go (decLt (suc n) R)
+    where
+      go : Dec (suc n < R) → win ((n + 1) % R) R (set r n b) ≡ (drop (suc n) r ++ take n r) ++ (b ∷ [])
+      go (yes h) =
+          rw (next-on h, take-all R (set r n b) (omega (arith, length-set r n b)), drop-set-lt (suc n) r n b (omega arith), front)
+          (sym (append-assoc (drop (suc n) r) (take n r) (b ∷ [])))
+      go (no h) =
+          let e : suc n ≡ R = omega arith in
+          rw (next-end e, win-zero R (set r n b), ← e, front, drop-of-length-le r {i = suc n} (omega arith))

@@ -1,0 +1,40 @@
+-- The three ways out are the three cases of the floor held to 0..279. Assumes nothing.
+use mathlib.Core.Path.{_≡_, refl, sym, _∙_}
+use native.Mathlib.Omega.{arith}
+use lib.Dec.{lit≤}
+use lib.Ieee.{Float, div, add, binary64, ofBits}
+use Rattle.model.specs.Numbers.{f140, half}
+use Rattle.model.specs.Ring.{binOf}
+use Rattle.ring.proofs.Floats.{Between, between, above, below}
+use Rattle.ring.proofs.bin_index.Statement.{statement}
+use Rattle.ring.proofs.bin_index.Tie as tie
+
+abbrev zOf : Float → Float
+zOf p = div binary64 (add binary64 p f140) half
+
+-- 280 is 35 * 2 ^ 3
+here : (c : tie.Then2) → Between (zOf (c .before .before .args .p)) 279
+unfolding ofBits
+here c = between 35 3 279 refl (lit≤ tt) _ (c .before .if1 .taken) (c .if2 .taken)
+
+truncating-f64-to-u64-requires : tie.Need-truncating-f64-to-u64-requires
+truncating-f64-to-u64-requires c κs = (here c .low, here c .high)
+
+cast-result : tie.Need-cast-result
+cast-result c = omega (arith, here (c .before) .small)
+
+returns : tie.Need-returns
+unfolding binOf
+returns c = c .truncating-f64-to-u64 .ensures ∙ here (c .before) .whole
+
+returns-2 : tie.Need-returns-2
+unfolding binOf ofBits
+returns-2 c = sym (above 35 3 279 refl (lit≤ tt) (zOf (c .before .before .args .p)) (c .before .if1 .taken) (c .if2 .left))
+
+returns-3 : tie.Need-returns-3
+unfolding binOf ofBits
+returns-3 c = sym (below 279 (zOf (c .before .args .p)) (c .if1 .left))
+
+pub bin-index-spec : {M : Type 1} → statement M
+bin-index-spec =
+    tie.close (tie.spec truncating-f64-to-u64-requires cast-result returns returns-2 returns-3)
