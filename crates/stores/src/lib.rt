@@ -1,9 +1,10 @@
 // Document 01, "Stores": the soundness test of a lent bank, the refusals in their order, and a fresh bank.
+pub mod making;
 pub mod sound;
 
 ghost use mathlib.Core.Path.{_≡_};
 ghost use Prim.Native.Nat.{_≤_};
-ghost use lib.ListN.{length, getD};
+ghost use lib.ListN.{length};
 ghost use Rattle.laws.specs.Tests.{within};
 ghost use Rattle.model.specs.Bank.{blocks as blocksOf};
 ghost use Rattle.model.specs.Stores.{base as baseOf, bankLen};

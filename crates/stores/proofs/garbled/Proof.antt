@@ -1,18 +1,15 @@
-use lib.ListN.{length}
-use Rattle.stores.specs.Checks.{sharingOf}
-use Prim.Native.Nat.{ℕ, _≤_, _-_}
 use mathlib.Core.Path.{_≡_, refl, sym, ap, _∙_}
 use mathlib.Core.Bool.{false}
+use Prim.Native.Nat.{ℕ, _≤_, _-_}
 use native.Mathlib.Omega.{arith}
+use lib.ListN.{length}
+use borrow.Author.Needs.{needs}
 use Rattle.laws.specs.Tests.{anyBelow}
 use Rattle.laws.proofs.Tests.{any-more, any-at, any-done}
+use Rattle.stores.specs.Checks.{sharingOf}
 use Rattle.stores.proofs.Hops.{nanAt, nan-read, garbled-is}
-use borrow.Author.Needs.{needs}
 use Rattle.stores.proofs.garbled.Statement.{statement}
 use Rattle.stores.proofs.garbled.Tie as tie
-use Rattle.stores.proofs.garbled.Reads as reads
-use Rattle.stores.proofs.garbled.Lts as lts
-use Rattle.stores.proofs.sharing.Reads as sharing-reads
 
 abbrev Inv-loop : tie.InvT-loop
 Inv-loop power-db end k₀ k = (k ≤ end) × (anyBelow k (nanAt power-db) ≡ false)
@@ -20,32 +17,25 @@ Inv-loop power-db end k₀ k = (k ≤ end) × (anyBelow k (nanAt power-db) ≡ f
 abbrev μ-loop : tie.MeasureT-loop
 μ-loop power-db end k₀ k = end - k
 
--- src/lib.rt:180:9
 sharing-requires : tie.Need-sharing-requires Inv-loop μ-loop
 sharing-requires c κs = search needs
 
--- src/lib.rt:182:5
 loop-holds : tie.Need-loop-holds Inv-loop μ-loop
 unfolding anyBelow
 loop-holds c = (search needs, refl)
 
--- src/lib.rt:183:12
 mul-if1 : tie.Need-mul-if1 Inv-loop μ-loop
 mul-if1 c = search needs
 
--- src/lib.rt:183:12
 shared-slice-read-if1 : tie.Need-shared-slice-read-if1 Inv-loop μ-loop
 shared-slice-read-if1 c = search needs
 
--- src/lib.rt:183:27
 mul-if1-2 : tie.Need-mul-if1-2 Inv-loop μ-loop
 mul-if1-2 c = search needs
 
--- src/lib.rt:183:27
 shared-slice-read-if1-2 : tie.Need-shared-slice-read-if1-2 Inv-loop μ-loop
 shared-slice-read-if1-2 c = search needs
 
--- src/lib.rt:184:13
 returns : tie.Need-returns Inv-loop μ-loop
 returns c = let l = c .before .before .before .before in
     let db = l .before .before .before .args .power-db .now in
@@ -53,21 +43,17 @@ returns c = let l = c .before .before .before .before in
     ∙ ap (λ (n : ℕ). anyBelow n (nanAt db)) (l .before .sharing .ensures .0)
     ∙ garbled-is db (length db)
 
--- src/lib.rt:186:9
 add-k : tie.Need-add-k Inv-loop μ-loop
 add-k c = search needs
 
--- src/lib.rt:182:5
 loop-less : tie.Need-loop-less Inv-loop μ-loop
 loop-less c = search needs
 
--- src/lib.rt:182:5
 loop-again : tie.Need-loop-again Inv-loop μ-loop
 loop-again c = let l = c .before .before .before .before in
     let db = l .before .before .before .args .power-db .now in
     (omega arith, any-more (nanAt db) (l .loop .k) (l .loop .inv .1) (sym (nan-read db (l .loop .k) (omega arith)) ∙ c .if1 .left))
 
--- src/lib.rt:177:1
 returns-2 : tie.Need-returns-2 Inv-loop μ-loop
 returns-2 c = let l = c .before in
     let db = l .before .before .before .args .power-db .now in

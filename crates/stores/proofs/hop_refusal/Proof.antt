@@ -1,16 +1,13 @@
 use mathlib.Core.Path.{_≡_, sym, ap, _∙_}
 use mathlib.Core.Bool.{Bool}
 use lib.ListN.{length}
+use borrow.Author.Needs.{needs}
 use Rattle.laws.specs.Tests.{first}
 use Rattle.model.specs.Refusals.{garbled}
 use Rattle.stores.specs.Checks.{hopRefusal}
 use Rattle.stores.proofs.Hops.{db-long, power-long, fast, slow}
-use borrow.Author.Needs.{needs}
 use Rattle.stores.proofs.hop_refusal.Statement.{statement}
 use Rattle.stores.proofs.hop_refusal.Tie as tie
-use Rattle.stores.proofs.hop_refusal.Reads as reads
-use Rattle.stores.proofs.hop_refusal.Lts as lts
-use Rattle.stores.proofs.garbled.Reads as garbled-reads
 
 abbrev start : tie.Else3 → tie.Start
 start e = e .before .before .before .before .before
@@ -21,31 +18,25 @@ quiet : (e : tie.Else3)
 quiet e = let s = start e in
     slow (s .args .n) (s .args .phase) (s .args .power-db .now) (length (s .args .power .now)) (e .before .before .if1 .left) (e .before .if2 .left) (e .if3 .left)
 
--- src/lib.rt:195:9
 returns : tie.Need-returns
 returns c = let s = c .before .before .before in
     db-long (s .args .n) (s .args .phase) (s .args .power-db .now) (length (s .args .power .now)) (c .if1 .taken)
 
--- src/lib.rt:198:9
 returns-2 : tie.Need-returns-2
 returns-2 c = let s = c .before .before .before .before in
     power-long (s .args .n) (s .args .phase) (s .args .power-db .now) (length (s .args .power .now)) (c .before .if1 .left) (c .if2 .taken)
 
--- src/lib.rt:201:9
 returns-3 : tie.Need-returns-3
 returns-3 c = let s = c .before .before .before .before .before in
     fast (s .args .n) (s .args .phase) (s .args .power-db .now) (length (s .args .power .now)) (c .before .before .if1 .left) (c .before .if2 .left) (c .if3 .taken)
 
--- src/lib.rt:203:8
 garbled-requires : tie.Need-garbled-requires
 garbled-requires c κs = search needs
 
--- src/lib.rt:204:9
 returns-4 : tie.Need-returns-4
 returns-4 c = let g = c .before in
     ap (λ (b : Bool). first b 6 0) (sym (c .if4 .taken) ∙ g .garbled .ensures) ∙ quiet (g .before)
 
--- src/lib.rt:191:1
 returns-5 : tie.Need-returns-5
 returns-5 c = let g = c .before in
     ap (λ (b : Bool). first b 6 0) (sym (c .if4 .left) ∙ g .garbled .ensures) ∙ quiet (g .before)

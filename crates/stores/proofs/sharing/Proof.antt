@@ -3,18 +3,13 @@ use borrow.Author.Tests.{eq-eqb, ne-eqb}
 use borrow.Author.Needs.{needs}
 use Rattle.stores.proofs.sharing.Statement.{statement}
 use Rattle.stores.proofs.sharing.Tie as tie
-use Rattle.stores.proofs.sharing.Reads as reads
-use Rattle.stores.proofs.sharing.Lts as lts
 
--- src/lib.rt:171:16
 sub-result : tie.Need-sub-result
 sub-result c = search needs
 
--- src/lib.rt:171:9
 returns : tie.Need-returns
 returns c = (simp (eq-eqb _ _ (c .if1 .taken)), omega arith)
 
--- src/lib.rt:167:1
 returns-2 : tie.Need-returns-2
 returns-2 c = (simp (ne-eqb _ _ (c .if1 .left)), omega arith)
 

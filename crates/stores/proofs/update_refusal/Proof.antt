@@ -1,19 +1,14 @@
-use Prim.Native.Nat.{ℕ, _≤_}
 use mathlib.Core.Path.{_≡_, sym, ap, _∙_}
+use Prim.Native.Nat.{ℕ, _≤_}
 use native.Mathlib.Omega.{arith}
 use lib.ListN.{length, getD}
+use borrow.Author.Needs.{needs}
 use Rattle.laws.proofs.Tests.{stands, goes-on}
 use Rattle.model.specs.Refusals.{bankRefusal, updateRefusal}
 use Rattle.stores.specs.Checks.{hopRefusal}
 use Rattle.stores.proofs.Sizes.{at-least-three}
-use borrow.Author.Needs.{needs}
 use Rattle.stores.proofs.update_refusal.Statement.{statement}
 use Rattle.stores.proofs.update_refusal.Tie as tie
-use Rattle.stores.proofs.update_refusal.Reads as reads
-use Rattle.stores.proofs.update_refusal.Lts as lts
-use Rattle.stores.proofs.bank_refusal.Reads as bank-refusal-reads
-use Rattle.stores.proofs.hop_refusal.Reads as hop-refusal-reads
-use Rattle.stores.proofs.wide.Reads as wide-reads
 
 abbrev start : tie.Else1 → tie.Start
 start e = e .before .before .before .before .before .before
@@ -24,33 +19,26 @@ none e = sym (e .before .bank-refusal .ensures) ∙ e .if1 .left
 three : (e : tie.Else1) → 3 ≤ length (start e .args .bank .now)
 three e = at-least-three (start e .args .bank .now) (start e .args .bank-f .now) (none e)
 
--- src/lib.rt:213:9
 bank-refusal-requires : tie.Need-bank-refusal-requires
 bank-refusal-requires c κs = search needs
 
--- src/lib.rt:215:9
 returns : tie.Need-returns
 unfolding updateRefusal
 returns c = let r = c .before in
     r .bank-refusal .ensures ∙ stands _ _ (λ q. c .if1 .taken (r .bank-refusal .ensures ∙ q))
 
--- src/lib.rt:217:22
 shared-slice-read-wide : tie.Need-shared-slice-read-wide
 shared-slice-read-wide c = omega (arith, three (c .before))
 
--- src/lib.rt:217:17
 wide-requires : tie.Need-wide-requires
 wide-requires c κs = search needs
 
--- src/lib.rt:217:32
 shared-slice-read-hop-refusal : tie.Need-shared-slice-read-hop-refusal
 shared-slice-read-hop-refusal c = omega (arith, three (c .before .before .before))
 
--- src/lib.rt:217:5
 hop-refusal-requires : tie.Need-hop-refusal-requires
 hop-refusal-requires c κs = search needs
 
--- src/lib.rt:210:1
 returns-2 : tie.Need-returns-2
 unfolding updateRefusal
 returns-2 c = let w = c .before .before in
