@@ -10,7 +10,7 @@ use lib.Seq.{take-suc, take-all, length-take-le}
 use mir.Val.{boolByte}
 use Rattle.laws.specs.Lists.{one, count}
 
-one-le : (b : Bool) → one b ≤ 1
+pub one-le : (b : Bool) → one b ≤ 1
 one-le true = omega arith
 one-le false = omega arith
 
@@ -24,7 +24,7 @@ module _ {A : Type 0} where
   count-append p [] ys = omega arith
   count-append p (x ∷ xs) ys = omega (arith, count-append p xs ys)
 
-  count-le : (p : A → Bool) (l : List A) → count p l ≤ length l
+  pub count-le : (p : A → Bool) (l : List A) → count p l ≤ length l
   count-le p [] = omega arith
   count-le p (x ∷ l) = omega (arith, one-le (p x), count-le p l)
 
