@@ -10,7 +10,7 @@ use lib.Seq.{take-suc, take-all, length-take-le}
 use mir.Val.{boolByte}
 use Rattle.laws.specs.Lists.{one, count}
 
-pub one-le : (b : Bool) → one b ≤ 1
+one-le : (b : Bool) → one b ≤ 1
 one-le true = omega arith
 one-le false = omega arith
 

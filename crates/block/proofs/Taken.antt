@@ -39,9 +39,9 @@ more p q (x ∷ l) h =
     by-test (p x) (λ t. rw (t, h 0 (omega arith) t) (omega arith)) (λ t. rw t (omega arith))
 
 -- ---- the order, of two that are no NaN
-lt-le : (x y : Float) → isNan x ≡ false → isNan y ≡ false → lt x y ≡ true → le x y ≡ true
+lt-le : (x y : Float) → lt x y ≡ true → le x y ≡ true
 unfolding le
-lt-le x y m n h = rw h
+lt-le x y h = rw h
 
 not-lt : (x y : Float) → isNan x ≡ false → isNan y ≡ false → lt y x ≡ false → le x y ≡ true
 not-lt x y m n h = not-false (le x y) (sym (lt-is x y m n) ∙ h)
@@ -50,7 +50,7 @@ lt-not : (x y : Float) → isNan x ≡ false → isNan y ≡ false → lt y x �
 lt-not x y m n h = not-true (le x y) (sym (lt-is x y m n) ∙ h)
 
 asym : (x y : Float) → isNan x ≡ false → isNan y ≡ false → lt y x ≡ true → lt x y ≡ false
-asym x y m n h = by-test (lt x y) (λ t. clash (sym (lt-le x y m n t) ∙ lt-not x y m n h)) (λ t. t)
+asym x y m n h = by-test (lt x y) (λ t. clash (sym (lt-le x y t) ∙ lt-not x y m n h)) (λ t. t)
 
 irrefl : (x : Float) → isNan x ≡ false → lt x x ≡ false
 irrefl x m = by-test (lt x x) (λ t. asym x x m m t) (λ t. t)
@@ -86,7 +86,7 @@ module _ (y : Float) (l : List Float) (n : NoNan (y ∷ l)) (all : (k : ℕ) →
         place = suc (b .place);
         within = omega arith;
         low = rw t (omega arith);
-        high = rw (lt-le y x y-no x-no t) (omega arith);
+        high = rw (lt-le y x t) (omega arith);
       })
       (λ t.
       let up = more (λ z. le z x) (λ z. le z y) l (λ i k e. le-trans (getD l i f0) x y (no i k) x-no y-no e (not-lt x y x-no y-no t)) in

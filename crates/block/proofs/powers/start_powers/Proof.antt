@@ -1,3 +1,4 @@
+-- `block::powers::start_powers` meets its contract: the first i entries are written. Assumes nothing.
 use mathlib.Core.Path.{ap, _∙_}
 use mathlib.Core.List.{List}
 use Prim.Native.Nat.{ℕ, _-_}
