@@ -5,7 +5,7 @@ ghost use Prim.Native.Nat.{_+_, _-_, _%_, _<_, _≤_, min};
 ghost use lib.Dec.{eqb};
 ghost use lib.ListN.{length, getD};
 ghost use Rattle.laws.specs.Lists.{one};
-ghost use Rattle.model.specs.Ring.{binOf, centreOf, oldest, pushIn};
+ghost use Rattle.model.specs.Ring.{binOf, centreOf, oldest, pushIn, since};
 ghost use Rattle.model.specs.Stores.{chanU, chanOf};
 ghost use Rattle.ring.specs.Sound.{Sound};
 ghost use Rattle.ring.specs.Push.{roomed, entered, Roomy};
@@ -146,4 +146,12 @@ pub fn push(chan: &mut [u16], bin: u16, quiet: bool)
 {
     make_room(chan);
     enter(chan, bin, lead_rise(bin, quiet));
+}
+
+// Entries taken since the leading silence of the channel's block.
+pub fn since(chan: &[u16]) -> u16
+    requires { ⌜ (length (now chan) ≡ 533) × Sound 250 280 (chanOf (now chan)) ⌝ }
+    ensures { λ r. ⌜ r ≡ since (chanOf (now (chan .entry))) ⌝ }
+{
+    chan[FILLED] - chan[LEAD]
 }
