@@ -22,7 +22,8 @@ pub fn channel_floor_db(bank: &[u16], bank_f: &[f64], k: usize) -> model::Readin
     if no != 0 {
         return model::Reading::Refused(no);
     }
-    model::Reading::Value(bank_f[k])
+    let raw = bank_f[k];
+    model::Reading::Value(raw)
 }
 
 fn effective_at(bank: &[u16], bank_f: &[f64], k: usize) -> f64

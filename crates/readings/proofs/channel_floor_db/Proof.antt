@@ -21,11 +21,11 @@ returns : tie.Need-returns
 unfolding rawReading
 returns c = refused _ _ _ (c .before .read-refusal .ensures) (c .if1 .taken)
 
-mul-t6 : tie.Need-mul-t6
-mul-t6 c = omega (arith, ok c)
+mul-raw : tie.Need-mul-raw
+mul-raw c = omega (arith, ok c)
 
-shared-slice-read-t8 : tie.Need-shared-slice-read-t8
-shared-slice-read-t8 c = omega (arith, ok (c .before))
+shared-slice-read-raw : tie.Need-shared-slice-read-raw
+shared-slice-read-raw c = omega (arith, ok (c .before))
 
 returns-2 : tie.Need-returns-2
 unfolding rawReading
@@ -34,4 +34,4 @@ returns-2 c = let e = c .before in
 
 pub channel-floor-db-spec : {M : Type 1} → statement M
 channel-floor-db-spec =
-    tie.close (tie.spec read-refusal-requires returns mul-t6 shared-slice-read-t8 returns-2)
+    tie.close (tie.spec read-refusal-requires returns mul-raw shared-slice-read-raw returns-2)
