@@ -1,14 +1,15 @@
 -- A loop that writes a list from its front, entry by entry, over the list that was there: what it has written after k turns.
 -- Assumes nothing.
 use mathlib.Core.Path.{_≡_, refl, sym, ap, ap₂, _∙_}
-use mathlib.Core.List.{List, [], _∷_, _++_, append-nil}
-use Prim.Native.Nat.{ℕ, zero, suc, _+_, _<_, _≤_}
+use mathlib.Core.List.{List, _++_, append-nil}
+use Prim.Native.Nat.{ℕ, _+_, _<_, _≤_}
 use native.Mathlib.Nat.{zero-add}
 use native.Mathlib.Omega.{arith}
 use lib.ListN.{length, getD, set, length-set}
 use lib.Seq.{drop-length}
 use Rattle.laws.specs.Lists.{splice, tab}
 use Rattle.laws.proofs.Lists.{getD-past}
+use Rattle.laws.proofs.Defaults.{getD-any}
 use Rattle.laws.proofs.Tabs.{length-tab, fill-begins, fill-turns}
 
 -- the first k entries of l are f's, and the others are those of l₀
@@ -18,12 +19,6 @@ pub record Filled {A : Type 0} (l₀ : List A) (f : ℕ → A) (k : ℕ) (l : Li
   pub so-far : l ≡ splice 0 k l₀ (tab k f)
 
 module _ {A : Type 0} where
-  -- what is read within a list does not depend on what would be read past its end
-  pub getD-any : (l : List A) (i : ℕ) (d e : A) → i < length l → getD l i d ≡ getD l i e
-  getD-any [] i d e h = absurd (omega arith)
-  getD-any (x ∷ l) zero d e h = refl
-  getD-any (x ∷ l) (suc i) d e h = getD-any l i d e (omega arith)
-
   pub begins : (l : List A) (f : ℕ → A) → Filled l f 0 l
   begins l f = record { within = omega arith; long = refl; so-far = fill-begins 0 l f }
 

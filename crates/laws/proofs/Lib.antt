@@ -3,3 +3,4 @@ pub mod Lists
 pub mod Tabs
 pub mod Joined
 pub mod Floats
+pub mod Defaults

@@ -2,7 +2,7 @@
 ghost use mathlib.Core.Path.{_≡_};
 ghost use Prim.Native.Nat.{_≤_, _<_};
 ghost use lib.ListN.{length, getD};
-ghost use Rattle.model.specs.Ring.{centreOf, entries, smallest, quartile, rawFloor, usableFloor};
+ghost use Rattle.model.specs.Ring.{entries, smallest, quartile, rawFloor, usableFloor};
 ghost use Rattle.model.specs.Stores.{chanOf};
 ghost use Rattle.ring.specs.Sound.{Sound};
 
@@ -10,12 +10,6 @@ fn wide(x: u16) -> usize
     ensures { λ r. ⌜ r ≡ x ⌝ }
 {
     x as usize
-}
-
-fn centre(b: u16) -> f64
-    ensures { λ r. ⌜ r ≡ centreOf b ⌝ }
-{
-    -140.0 + ((b as f64) + 0.5) * 0.5
 }
 
 // The bin of the rank-th smallest entry: the first at which the counts so far come to rank.
@@ -46,7 +40,7 @@ fn quartile(chan: &[u16], skip: usize) -> f64
     if left == 0 {
         return -140.0;
     }
-    centre(ranked_bin(chan, skip + (left + 3) / 4))
+    ring::bin_centre(ranked_bin(chan, skip + (left + 3) / 4))
 }
 
 pub fn raw_floor(chan: &[u16]) -> f64

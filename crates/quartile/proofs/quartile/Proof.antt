@@ -43,15 +43,15 @@ add-ranked-bin-2 c = search needs
 ranked-bin-requires : tie.Need-ranked-bin-requires
 ranked-bin-requires c κs = search needs
 
-centre-requires : tie.Need-centre-requires
-centre-requires c κs = search needs
+bin-centre-requires : tie.Need-bin-centre-requires
+bin-centre-requires c κs = search needs
 
 returns-2 : tie.Need-returns-2
 returns-2 c =
     let r = c .before in
     let w = r .before .before in
     let s = w .before .before .before in
-    c .centre .ensures
+    c .bin-centre .ensures
     ∙ ap centreOf (r .ranked-bin .ensures)
     ∙ some-left (chan s) (s .args .skip) (w .wide .result) (s .pre .0 .1) (omega arith) (zeros s) (w .wide .ensures)
     (omega (arith, r .before .if1 .left))
@@ -67,5 +67,5 @@ quartile-spec =
     add-ranked-bin
     add-ranked-bin-2
     ranked-bin-requires
-    centre-requires
+    bin-centre-requires
     returns-2)

@@ -6,7 +6,7 @@ use lib.ListN.{length}
 use lib.Ieee.{nan}
 use Rattle.model.specs.Numbers.{f0}
 use Rattle.block.proofs.Ranks.{Search, begins, found, goes-on, ends}
-use Rattle.block.proofs.Fills.{getD-any}
+use Rattle.laws.proofs.Defaults.{getD-any}
 use borrow.Author.Needs.{needs}
 use Rattle.block.proofs.median.ranked_value.Statement.{statement}
 use Rattle.block.proofs.median.ranked_value.Tie as tie

@@ -1,0 +1,127 @@
+// The C interface: each call of the bank in a form that C can pass. An enum, a struct or a returned part is taken apart here.
+ghost use mathlib.Core.Path.{_≡_};
+ghost use Rattle.model.specs.Calls.{bankLenFor, bankFLenFor};
+ghost use Rattle.model.specs.Readings.{rawReading, effectiveReading, riseReading, referenceReading, floorsReading};
+ghost use Rattle.wolfcloak.specs.Answers.{answered, floorsAnswered, ringAnswered};
+
+#[no_mangle]
+pub extern "C" fn wolfcloak_bank_len(n: usize) -> usize
+    ensures { λ r. ⌜ r ≡ bankLenFor n ⌝ }
+{
+    stores::bank_len(n)
+}
+
+#[no_mangle]
+pub extern "C" fn wolfcloak_bank_f_len(n: usize) -> usize
+    ensures { λ r. ⌜ r ≡ bankFLenFor n ⌝ }
+{
+    stores::bank_f_len(n)
+}
+
+// A reading's number, its value written only if it has one.
+fn take_apart(reading: model::Reading, value: &mut f64) -> u16
+    ensures { λ r. ⌜ (r, now (value .exit)) ≡ answered (now (value .entry)) reading ⌝ }
+{
+    match reading {
+        model::Reading::Value(x) => {
+            *value = x;
+            return 0;
+        }
+        model::Reading::Refused(no) => {
+            return no;
+        }
+    }
+}
+
+#[no_mangle]
+pub extern "C" fn wolfcloak_channel_floor_db(
+    bank: &[u16],
+    bank_f: &[f64],
+    k: usize,
+    value: &mut f64,
+) -> u16
+    ensures { λ r. ⌜ (r, now (value .exit)) ≡ answered (now (value .entry)) (rawReading (now (bank .entry)) (now («bank_f» .entry)) k) ⌝ }
+{
+    take_apart(readings::channel_floor_db(bank, bank_f, k), value)
+}
+
+#[no_mangle]
+pub extern "C" fn wolfcloak_effective_floor_db(
+    bank: &[u16],
+    bank_f: &[f64],
+    k: usize,
+    value: &mut f64,
+) -> u16
+    ensures { λ r. ⌜ (r, now (value .exit)) ≡ answered (now (value .entry)) (effectiveReading (now (bank .entry)) (now («bank_f» .entry)) k) ⌝ }
+{
+    take_apart(readings::effective_floor_db(bank, bank_f, k), value)
+}
+
+#[no_mangle]
+pub extern "C" fn wolfcloak_rise_floor_db(
+    bank: &[u16],
+    bank_f: &[f64],
+    k: usize,
+    value: &mut f64,
+) -> u16
+    ensures { λ r. ⌜ (r, now (value .exit)) ≡ answered (now (value .entry)) (riseReading (now (bank .entry)) (now («bank_f» .entry)) k) ⌝ }
+{
+    take_apart(readings::rise_floor_db(bank, bank_f, k), value)
+}
+
+#[no_mangle]
+pub extern "C" fn wolfcloak_spectral_reference(
+    bank: &[u16],
+    bank_f: &[f64],
+    k: usize,
+    value: &mut f64,
+) -> u16
+    ensures { λ r. ⌜ (r, now (value .exit)) ≡ answered (now (value .entry)) (referenceReading (now (bank .entry)) (now («bank_f» .entry)) k) ⌝ }
+{
+    take_apart(readings::spectral_reference(bank, bank_f, k), value)
+}
+
+#[no_mangle]
+pub extern "C" fn wolfcloak_floors(
+    bank: &[u16],
+    bank_f: &[f64],
+    k: usize,
+    effective: &mut f64,
+    rise: &mut f64,
+    raw: &mut f64,
+) -> u16
+    ensures { λ r. ⌜ (r, now (effective .exit), now (rise .exit), now (raw .exit)) ≡ floorsAnswered (now (effective .entry)) (now (rise .entry)) (now (raw .entry)) (floorsReading (now (bank .entry)) (now («bank_f» .entry)) k) ⌝ }
+{
+    let reading = readings::floors(bank, bank_f, k);
+    match reading {
+        model::FloorsReading::Value(x) => {
+            *effective = x.effective;
+            *rise = x.rise;
+            *raw = x.raw;
+            return 0;
+        }
+        model::FloorsReading::Refused(no) => {
+            return no;
+        }
+    }
+}
+
+// Where in `bank` the ring of channel k lies.
+#[no_mangle]
+pub extern "C" fn wolfcloak_ring(
+    bank: &[u16],
+    bank_f: &[f64],
+    k: usize,
+    start: &mut usize,
+    len: &mut usize,
+) -> u16
+    ensures { λ r. ⌜ (r, now (start .exit), now (len .exit)) ≡ ringAnswered (now (bank .entry)) (now («bank_f» .entry)) k (now (start .entry)) (now (len .entry)) ⌝ }
+{
+    let no = stores::read_refusal(bank, bank_f, k);
+    if no != 0 {
+        return no;
+    }
+    *start = readings::ring_start(bank, k);
+    *len = 250;
+    0
+}
