@@ -10,6 +10,8 @@ use Rattle.model.specs.Numbers.{f0}
 use Rattle.model.specs.Ring.{ChannelFloor, floorHeld, binOf, push, pushAs, pushIn, without, insert, sorted, smallest, quartile, rawFloor, usableFloor}
 use Rattle.model.specs.Bank.{FloorBank, Hop, firstAt, ranked, median, freshChannel, freshBank, smoothAfter, seedsAfter, sumsAfter, chansAfter, rawFloors, usableFloors, blockFloors, riseFloors, effectiveFloor, riseFloor, slowStep, fastStep, bankStep}
 use Rattle.model.specs.Readings.{effectiveAt, riseAt}
+use Rattle.model.specs.Ladder.{rootOf}
+use Rattle.model.specs.Windows.{PowerLooks, besideStronger, lookRises}
 
 -- -m/d, rounded
 abbrev pub minus : ℕ → ℕ → Float
@@ -31,6 +33,8 @@ pub data Case : Type 0 where
   blockFloorIs : List Float → Float → Case
   effectiveIs : List Float → ℕ → Float → Case
   riseIs : List Float → ℕ → Float → Case
+  rootIs : ℕ → ℕ → Case
+  looksRise : PowerLooks → Float → ℕ → Case
 
 abbrev pub Holds : Case → Type 0
 Holds (binIs p b) = binOf p ≡ b
@@ -39,6 +43,8 @@ Holds (medianIs l x) = median l ≡ x
 Holds (blockFloorIs db x) = getD (twoAfter db .blockFloor) 0 f0 ≡ x
 Holds (effectiveIs db k x) = effectiveAt (twoAfter db) k ≡ x
 Holds (riseIs db k x) = riseAt (twoAfter db) k ≡ x
+Holds (rootIs j t) = rootOf j ≡ t
+Holds (looksRise l threshold k) = lookRises 2 threshold k l ≡ true
 
 abbrev pub AllHold : List Case → Type 0
 AllHold [] = Unit {0}
@@ -46,6 +52,13 @@ AllHold (c ∷ cs) = Holds c × AllHold cs
 
 abbrev pub hopH : List Float
 hopH = minus 100 1 ∷ minus 60 1 ∷ []
+
+abbrev pub four : Float
+four = round binary64 false 4 1
+
+-- m = 1, filled 2, every recent and previous sum 4
+abbrev pub looksJ : PowerLooks
+looksJ = record { m = 1; cursor = 0; filled = 2; rings = replicate 2 (replicate 2 four); recent = four ∷ four ∷ []; previous = four ∷ four ∷ [] }
 
 abbrev pub bench : List Case
 bench =
@@ -76,8 +89,13 @@ bench =
     ∷ effectiveIs hopH 0 (sub binary64 (minus 80 1) (round binary64 false 38 10))
     ∷ effectiveIs hopH 1 (minus 7675 100)
     ∷ riseIs hopH 0 (minus 7975 100)
+    -- i
+    ∷ rootIs 40 3162277660
+    -- j
+    ∷ looksRise looksJ four 0
+    ∷ looksRise looksJ four 1
     ∷ []
 
 pub bench-holds : AllHold bench
-unfolding binOf floorHeld push pushAs pushIn without insert sorted smallest quartile rawFloor usableFloor firstAt ranked median freshChannel freshBank smoothAfter seedsAfter sumsAfter chansAfter rawFloors usableFloors blockFloors riseFloors effectiveFloor riseFloor slowStep fastStep bankStep effectiveAt add sub mul div neg lt le isNan ofBits ofInt round sum odd units size span climb ofFields trailingZeros
-bench-holds = (refl, (refl, (refl, (refl, (refl, (refl, (refl, (refl, (refl, (refl, (refl, (refl, (refl, (refl, (refl, (refl, (refl, (refl, (refl, tt)))))))))))))))))))
+unfolding binOf floorHeld push pushAs pushIn without insert sorted smallest quartile rawFloor usableFloor firstAt ranked median freshChannel freshBank smoothAfter seedsAfter sumsAfter chansAfter rawFloors usableFloors blockFloors riseFloors effectiveFloor riseFloor slowStep fastStep bankStep effectiveAt rootOf besideStronger lookRises add sub mul div neg lt le isNan ofBits ofInt round sum odd units size span climb ofFields trailingZeros
+bench-holds = (refl, (refl, (refl, (refl, (refl, (refl, (refl, (refl, (refl, (refl, (refl, (refl, (refl, (refl, (refl, (refl, (refl, (refl, (refl, (refl, (refl, (refl, tt))))))))))))))))))))))

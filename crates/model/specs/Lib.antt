@@ -5,4 +5,9 @@ pub mod Stores
 pub mod Refusals
 pub mod Calls
 pub mod Readings
+pub mod Ladder
+pub mod Windows
+pub mod Gate
+pub mod GateStores
+pub mod GateCalls
 pub mod Bench
