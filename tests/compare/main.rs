@@ -16,25 +16,25 @@ mod tally;
 mod wolfcloak;
 
 use numbers::Rng;
+use runs::PLANS;
 use std::sync::atomic::{AtomicUsize, Ordering};
 use tally::Tally;
 
-const SIZES: [usize; 10] = [512, 511, 65, 64, 33, 32, 31, 3, 2, 1];
+const SIZES: [usize; 10] = [1, 2, 3, 31, 32, 33, 64, 65, 511, 512];
 
-/// Job i: a run of some size and plan, or the making of banks.
+/// Job i: the making of banks, arbitrary stores of some size, or a run of some size and plan.
 fn job(i: usize, seed: u64, alone: &mut [u64; 9]) -> Option<Tally> {
     let mut t = Tally::default();
     let mut rng = Rng(seed ^ (i as u64) << 32);
-    let plans = runs::PLANS.len();
-    if i < SIZES.len() * plans {
-        runs::run(&mut t, SIZES[i / plans], &runs::PLANS[i % plans], &mut rng, alone);
-    } else if i == SIZES.len() * plans {
+    let run = i.wrapping_sub(1 + SIZES.len());
+    if i == 0 {
         faults::any_n(&mut t, &mut rng);
-    } else if i <= SIZES.len() * (plans + 1) {
-        let n = SIZES[i - SIZES.len() * plans - 1];
+    } else if i <= SIZES.len() {
+        let n = SIZES[i - 1];
         (0..6000 / (n + 10)).for_each(|_| faults::any_sound_store(&mut t, n, &mut rng));
     } else {
-        return None;
+        let n = *SIZES.get(run / PLANS.len())?;
+        runs::run(&mut t, n, &PLANS[run % PLANS.len()], &mut rng, alone);
     }
     Some(t)
 }
@@ -52,6 +52,9 @@ fn main() {
         let (mut t, mut alone) = (Tally::default(), [0; 9]);
         while let Some(more) = job(next.fetch_add(1, Ordering::Relaxed), seed, &mut alone) {
             t.add(more);
+            if t.differences > 1000 {
+                break;
+            }
         }
         (t, alone)
     };
