@@ -70,15 +70,21 @@ pub fn any_f32(rng: &mut Rng) -> f32 {
     }
 }
 
+/// Any but NaN and the infinities, which would stay in the smoothed powers for good.
+pub fn finite_f32(rng: &mut Rng) -> f32 {
+    let x = any_f32(rng);
+    if x.is_finite() { x } else { 1e-9 }
+}
+
 /// What a set hears.
 #[derive(Clone, Copy, PartialEq)]
 pub enum Feed {
     Silence, // digital silence
     Partly,  // digital silence on two channels of three, noise on the others
     Noise,   // noise, with keyed tones
-    Edges,   // the edges of bins
+    Edges,   // the edges of bins, finite powers
     Any,     // any floats, NaNs among them
-    Numbers, // any floats but NaN dB
+    Numbers, // any dB but NaN, finite powers
 }
 
 /// Channel k of a hop: dB and power.
@@ -86,11 +92,11 @@ pub fn sample(rng: &mut Rng, feed: Feed, hop: usize, k: usize) -> (f64, f32) {
     match feed {
         Feed::Silence => (-200.0, 0.0),
         Feed::Partly if k % 3 != 1 => (-200.0, 0.0),
-        Feed::Edges => (edge(rng), any_f32(rng)),
+        Feed::Edges => (edge(rng), finite_f32(rng)),
         Feed::Any => (any_f64(rng), any_f32(rng)),
         Feed::Numbers => {
             let db = any_f64(rng);
-            (if db.is_nan() { f64::INFINITY } else { db }, any_f32(rng))
+            (if db.is_nan() { f64::INFINITY } else { db }, finite_f32(rng))
         }
         Feed::Noise | Feed::Partly => {
             let tone = if k % 11 == 4 && hop / (20 + k) % 2 == 0 { 1e-6 } else { 0.0 };

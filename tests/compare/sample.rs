@@ -1,6 +1,6 @@
 // The kept list: calls with floor.rs's answers, for the program `replay` (README.md has the form).
 use crate::floor::FloorBank;
-use crate::numbers::{any_f32, any_f64, edge, Rng};
+use crate::numbers::{any_f32, any_f64, edge, finite_f32, Rng};
 use crate::rules::garbled;
 
 struct List {
@@ -20,7 +20,11 @@ impl List {
             40..=79 => any_f64(rng),
             _ => -100.0 + 30.0 * rng.unit(),
         };
-        let power = |i, rng: &mut Rng| if i == 0 { 0.0 } else { any_f32(rng) };
+        let power = |i, rng: &mut Rng| match i {
+            0 => 0.0,
+            1..=199 => finite_f32(rng),
+            _ => any_f32(rng),
+        };
         let db: Vec<f64> = (0..256).map(|i| db(i, &mut rng)).collect();
         let power: Vec<f32> = (0..256).map(|i| power(i, &mut rng)).collect();
         let mut bytes: Vec<u8> = db.iter().flat_map(|x| x.to_le_bytes()).collect();
@@ -76,17 +80,19 @@ impl List {
         f.iter().for_each(|x| self.bytes.extend(x.to_le_bytes()));
     }
 
-    /// A bank of n from fresh: silence for some hops, then noise with odd values among it.
+    /// A bank of n from fresh: silence for some hops, then noise with odd values among it. NaN and infinite powers come late,
+    /// since they stay.
     fn run(&mut self, n: u8, silent: usize, hops: usize) {
         self.make(n);
         let mut oracle = FloorBank::new(n as usize);
         for hop in 0..hops {
             let is_slow = oracle.to_stores().0[1] == 0;
+            let powers = if hop < hops * 4 / 5 { 200 } else { 256 };
             let rows = |rng: &mut Rng| match rng.below(12) {
                 _ if hop < silent => (0, 0),
-                0 if rng.one_in(8) => (rng.below(256) as u8, rng.below(256) as u8),
+                0 if rng.one_in(8) => (rng.below(256) as u8, rng.below(powers) as u8),
                 0 => (2 + rng.below(38) as u8, 0),
-                _ => (80 + rng.below(176) as u8, rng.below(256) as u8),
+                _ => (80 + rng.below(176) as u8, rng.below(powers) as u8),
             };
             self.hop(&mut oracle, is_slow, rows);
             if is_slow {
