@@ -1,0 +1,38 @@
+#!/usr/bin/env python3
+# oracle.py SRC OUT: the oracle of the comparison. OUT/floor.rs is floor.rs as published, but for the substitutions below, with
+# readable.rs at its end; OUT/channelizer.rs is what floor.rs needs of channelizer.rs. Each text must stand there exactly once.
+import pathlib, re, sys
+
+src, out = pathlib.Path(sys.argv[1]), pathlib.Path(sys.argv[2])
+here = pathlib.Path(__file__).parent
+
+SUBSTITUTIONS = [
+    # the literal of document 01, "Stores": powf has no rounding that IEEE 754 decides
+    ("vec![db_to_linear(HIST_MIN_DB); n_channels]", "vec![1e-14; n_channels]"),
+    # the spectral reference is linear in document 01: the minimum as it stands before the logarithm
+    ("pub fn spectral_reference_db(", "pub fn spectral_reference("),
+    ("        10.0 * m.log10()\n", "        m\n"),
+]
+
+
+def once(text, old):
+    if text.count(old) != 1:
+        sys.exit(f"oracle.py: {text.count(old)} places, not one, have: {old.strip()}")
+
+
+floor = (src / "floor.rs").read_text()
+for old, new in SUBSTITUTIONS:
+    once(floor, old)
+    floor = floor.replace(old, new)
+
+channelizer = (src / "channelizer.rs").read_text()
+kept = []
+for pattern in [r"const POWER_DB_EPSILON: f64 = [^;]*;\n", r"pub fn power_linear\(power: f32\) -> f64 \{\n[^}]*\}\n"]:
+    found = re.findall(pattern, channelizer)
+    if len(found) != 1:
+        sys.exit(f"oracle.py: {len(found)} places, not one, match: {pattern}")
+    kept += found
+
+out.mkdir(parents=True, exist_ok=True)
+(out / "floor.rs").write_text(floor + "\n" + (here / "readable.rs").read_text())
+(out / "channelizer.rs").write_text("".join(kept))

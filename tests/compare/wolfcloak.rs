@@ -1,0 +1,77 @@
+// The C interface of libwolfcloak.a, and a bank lent to it.
+#![allow(dead_code)]
+
+type Reading = unsafe extern "C" fn(*const u16, usize, *const f64, usize, usize, *mut f64) -> u16;
+
+#[link(name = "wolfcloak", kind = "static")]
+extern "C" {
+    pub fn wolfcloak_bank_len(n: usize) -> usize;
+    pub fn wolfcloak_bank_f_len(n: usize) -> usize;
+    fn wolfcloak_bank_new(bank: *mut u16, bank_len: usize, bank_f: *mut f64, bank_f_len: usize, n: usize) -> u16;
+    fn wolfcloak_bank_update(
+        bank: *mut u16, bank_len: usize, bank_f: *mut f64, bank_f_len: usize,
+        power_db: *const f64, power_db_len: usize, power: *const f32, power_len: usize,
+    ) -> u16;
+    fn wolfcloak_bank_update_holding_reference(
+        bank: *mut u16, bank_len: usize, bank_f: *mut f64, bank_f_len: usize,
+        power_db: *const f64, power_db_len: usize, power: *const f32, power_len: usize, hold_reference: bool,
+    ) -> u16;
+    fn wolfcloak_channel_floor_db(b: *const u16, bl: usize, f: *const f64, fl: usize, k: usize, value: *mut f64) -> u16;
+    fn wolfcloak_effective_floor_db(b: *const u16, bl: usize, f: *const f64, fl: usize, k: usize, value: *mut f64) -> u16;
+    fn wolfcloak_rise_floor_db(b: *const u16, bl: usize, f: *const f64, fl: usize, k: usize, value: *mut f64) -> u16;
+    fn wolfcloak_spectral_reference(b: *const u16, bl: usize, f: *const f64, fl: usize, k: usize, value: *mut f64) -> u16;
+    fn wolfcloak_floors(
+        b: *const u16, bl: usize, f: *const f64, fl: usize, k: usize,
+        effective: *mut f64, rise: *mut f64, raw: *mut f64,
+    ) -> u16;
+    fn wolfcloak_ring(
+        b: *const u16, bl: usize, f: *const f64, fl: usize, k: usize, start: *mut usize, len: *mut usize,
+    ) -> u16;
+}
+
+pub fn bank_new(u: &mut [u16], f: &mut [f64], n: usize) -> u16 {
+    unsafe { wolfcloak_bank_new(u.as_mut_ptr(), u.len(), f.as_mut_ptr(), f.len(), n) }
+}
+
+/// `hold` is None for the function without that argument.
+pub fn bank_update(u: &mut [u16], f: &mut [f64], db: &[f64], power: &[f32], hold: Option<bool>) -> u16 {
+    let (ul, fl) = (u.len(), f.len());
+    let (u, f) = (u.as_mut_ptr(), f.as_mut_ptr());
+    let (d, dl, p, pl) = (db.as_ptr(), db.len(), power.as_ptr(), power.len());
+    match hold {
+        None => unsafe { wolfcloak_bank_update(u, ul, f, fl, d, dl, p, pl) },
+        Some(h) => unsafe { wolfcloak_bank_update_holding_reference(u, ul, f, fl, d, dl, p, pl, h) },
+    }
+}
+
+fn reading(call: Reading, u: &[u16], f: &[f64], k: usize, value: &mut f64) -> u16 {
+    unsafe { call(u.as_ptr(), u.len(), f.as_ptr(), f.len(), k, value) }
+}
+
+pub fn channel_floor_db(u: &[u16], f: &[f64], k: usize, value: &mut f64) -> u16 {
+    reading(wolfcloak_channel_floor_db, u, f, k, value)
+}
+
+pub fn effective_floor_db(u: &[u16], f: &[f64], k: usize, value: &mut f64) -> u16 {
+    reading(wolfcloak_effective_floor_db, u, f, k, value)
+}
+
+pub fn rise_floor_db(u: &[u16], f: &[f64], k: usize, value: &mut f64) -> u16 {
+    reading(wolfcloak_rise_floor_db, u, f, k, value)
+}
+
+pub fn spectral_reference(u: &[u16], f: &[f64], k: usize, value: &mut f64) -> u16 {
+    reading(wolfcloak_spectral_reference, u, f, k, value)
+}
+
+/// Effective, rise, raw.
+pub fn floors(u: &[u16], f: &[f64], k: usize, v: &mut [f64; 3]) -> u16 {
+    let [effective, rise, raw] = v;
+    unsafe { wolfcloak_floors(u.as_ptr(), u.len(), f.as_ptr(), f.len(), k, effective, rise, raw) }
+}
+
+/// Start and length.
+pub fn ring(u: &[u16], f: &[f64], k: usize, part: &mut [usize; 2]) -> u16 {
+    let [start, len] = part;
+    unsafe { wolfcloak_ring(u.as_ptr(), u.len(), f.as_ptr(), f.len(), k, start, len) }
+}
