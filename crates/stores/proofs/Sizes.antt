@@ -9,7 +9,7 @@ use lib.ListN.{length, getD}
 use lib.Ieee.{Float}
 use borrow.Author.Tests.{eq-eqb, ne-eqb, lt-ltb, le-ltb, ltb-false, not-false}
 use Rattle.laws.specs.Lists.{part, tab}
-use Rattle.laws.specs.Tests.{allBelow, within, differ, first}
+use Rattle.laws.specs.Tests.{within, differ, first}
 use Rattle.laws.proofs.Lists.{getD-part}
 use Rattle.laws.proofs.Tabs.{getD-tab}
 use Rattle.laws.proofs.Tests.{and-false-l, and-false-r, and-true, passed, same-of, or-l, or-r, within-of, stands, goes-on}

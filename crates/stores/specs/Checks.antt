@@ -1,7 +1,7 @@
 -- The rules of a sound bank and the refusals over sizes, as the code meets them: on the u16 store and on plain numbers.
-use mathlib.Core.Bool.{Bool, not, _&&_, _||_}
+use mathlib.Core.Bool.{Bool, cond, not, _&&_, _||_}
 use mathlib.Core.List.{List}
-use Prim.Native.Nat.{ℕ, _+_}
+use Prim.Native.Nat.{ℕ, _+_, _-_, _%_}
 use lib.Dec.{eqb, ltb, leb}
 use lib.ListN.{length, getD}
 use lib.Ieee.{Float}
@@ -27,6 +27,10 @@ soundStore u n = soundHead (getD u 1 0) (getD u 2 0) && soundSeeds u n && soundC
 -- the number `band` if n is outside 1..512; then 2 if a store's length isn't the one for n
 abbrev pub sizeRefusal : ℕ → ℕ → ℕ → ℕ → ℕ
 sizeRefusal band uLen fLen n = first (not (within 1 512 n)) band (first (differ uLen (bankLen n) || differ fLen (bankFLen n)) 2 0)
+
+-- how many of n channels share a block with another: all but a last one that has a block of its own
+abbrev pub sharingOf : ℕ → ℕ
+sharingOf n = cond (eqb (n % 32) 1) (n - 1) n
 
 -- 5 if a hop slice isn't n long, then 6 on a slow hop
 abbrev pub hopRefusal : ℕ → ℕ → List Float → ℕ → ℕ

@@ -1,15 +1,16 @@
 // Document 01, "Stores": the soundness test of a lent bank, the refusals in their order, and a fresh bank.
+pub mod making;
 pub mod sound;
 
 ghost use mathlib.Core.Path.{_≡_};
 ghost use Prim.Native.Nat.{_≤_};
-ghost use lib.ListN.{length, getD};
+ghost use lib.ListN.{length};
 ghost use Rattle.laws.specs.Tests.{within};
 ghost use Rattle.model.specs.Bank.{blocks as blocksOf};
 ghost use Rattle.model.specs.Stores.{base as baseOf, bankLen};
 ghost use Rattle.model.specs.Calls.{bankLenFor, bankFLenFor};
-ghost use Rattle.model.specs.Refusals.{bankRefusal, readRefusal};
-ghost use Rattle.stores.specs.Checks.{soundHead, soundSeeds, soundChannels, soundStore, sizeRefusal};
+ghost use Rattle.model.specs.Refusals.{garbled as garbledBy, bankRefusal, updateRefusal, readRefusal};
+ghost use Rattle.stores.specs.Checks.{soundHead, soundSeeds, soundChannels, soundStore, sizeRefusal, sharingOf, hopRefusal};
 
 fn wide(x: u16) -> usize
     ensures { λ r. ⌜ r ≡ x ⌝ }
@@ -161,4 +162,58 @@ pub fn read_refusal(bank: &[u16], bank_f: &[f64], k: usize) -> u16
         return 0;
     }
     7
+}
+
+// How many of n channels share a block with another: all but a last one that has a block of its own.
+fn sharing(n: usize) -> usize
+    ensures { λ r. ⌜ (r ≡ sharingOf n) × (r ≤ n) ⌝ }
+{
+    if n % 32 == 1 {
+        return n - 1;
+    }
+    n
+}
+
+// A NaN in a block of two or more channels.
+fn garbled(power_db: &[f64]) -> bool
+    ensures { λ r. ⌜ r ≡ garbledBy (length (now («power_db» .entry))) (now («power_db» .entry)) ⌝ }
+{
+    let end = sharing(power_db.len());
+    let mut k: usize = 0;
+    while k < end {
+        if power_db[k] != power_db[k] {
+            return true;
+        }
+        k += 1;
+    }
+    false
+}
+
+fn hop_refusal(n: usize, phase: u16, power_db: &[f64], power: &[f32]) -> u16
+    ensures { λ r. ⌜ r ≡ hopRefusal n phase (now («power_db» .entry)) (length (now (power .entry))) ⌝ }
+{
+    if power_db.len() != n {
+        return 5;
+    }
+    if power.len() != n {
+        return 5;
+    }
+    if phase != 0 {
+        return 0;
+    }
+    if garbled(power_db) {
+        return 6;
+    }
+    0
+}
+
+// Whether a bank takes a hop: 0, or the number of the refusal.
+pub fn update_refusal(bank: &[u16], bank_f: &[f64], power_db: &[f64], power: &[f32]) -> u16
+    ensures { λ r. ⌜ r ≡ updateRefusal (now (bank .entry)) (now («bank_f» .entry)) (now («power_db» .entry)) (now (power .entry)) ⌝ }
+{
+    let no = bank_refusal(bank, bank_f);
+    if no != 0 {
+        return no;
+    }
+    hop_refusal(wide(bank[0]), bank[1], power_db, power)
 }

@@ -1,50 +1,38 @@
 use mathlib.Core.Path.{_≡_, sym, ap₂, _∙_}
-use borrow.Author.Tests.{not-true, not-false}
 use mathlib.Core.Bool.{true}
-use Rattle.laws.specs.Tests.{within}
-use native.Mathlib.Omega.{arith}
 use Prim.Native.Nat.{ℕ, _+_, _*_}
-use Rattle.stores.proofs.Sizes.{high, f-len-none, f-len-for}
+use native.Mathlib.Omega.{arith}
+use borrow.Author.Tests.{not-true, not-false}
 use borrow.Author.Needs.{needs}
+use Rattle.laws.specs.Tests.{within}
+use Rattle.stores.proofs.Sizes.{high, f-len-none, f-len-for}
 use Rattle.stores.proofs.bank_f_len.Statement.{statement}
 use Rattle.stores.proofs.bank_f_len.Tie as tie
-use Rattle.stores.proofs.bank_f_len.Reads as reads
-use Rattle.stores.proofs.bank_f_len.Lts as lts
-use Rattle.stores.proofs.blocks.Reads as blocks-reads
-use Rattle.stores.proofs.in_band.Reads as in-band-reads
 
 band : (c : tie.Else1) → within 1 512 (c .before .before .args .n) ≡ true
 band c = sym (c .before .in-band .ensures) ∙ not-false _ (c .if1 .left)
 
--- src/lib.rt:58:9
 in-band-requires : tie.Need-in-band-requires
 in-band-requires c κs = search needs
 
--- src/lib.rt:59:9
 returns : tie.Need-returns
 returns c = f-len-none (c .before .before .args .n) (sym (c .before .in-band .ensures) ∙ not-true _ (c .if1 .taken))
 
--- src/lib.rt:61:5
 mul-result : tie.Need-mul-result
 mul-result c = omega (arith, high (c .before .before .args .n) (band c))
 
--- src/lib.rt:61:13
 blocks-requires : tie.Need-blocks-requires
 blocks-requires c κs = high _ (band c)
 
--- src/lib.rt:61:5
 add-result : tie.Need-add-result
 add-result c = search needs
 
--- src/lib.rt:61:25
 blocks-requires-2 : tie.Need-blocks-requires-2
 blocks-requires-2 c κs = search needs
 
--- src/lib.rt:61:5
 add-result-2 : tie.Need-add-result-2
 add-result-2 c = search needs
 
--- src/lib.rt:55:1
 returns-2 : tie.Need-returns-2
 returns-2 c = let b = c .before in
     let e = b .before in

@@ -1,21 +1,16 @@
-use Prim.Native.Nat.{ℕ}
 use mathlib.Core.Path.{_≡_, sym, ap, _∙_}
 use mathlib.Core.Bool.{Bool, not}
 use mathlib.Core.List.{List}
+use Prim.Native.Nat.{ℕ}
 use native.Mathlib.Omega.{arith}
 use lib.ListN.{length, getD}
 use lib.Ieee.{Float}
+use borrow.Author.Needs.{needs}
 use Rattle.laws.specs.Tests.{first}
 use Rattle.stores.specs.Checks.{sizeRefusal, soundStore}
 use Rattle.stores.proofs.Sizes.{sizeOf, fit, short, wrong-size, told}
-use borrow.Author.Needs.{needs}
 use Rattle.stores.proofs.bank_refusal.Statement.{statement}
 use Rattle.stores.proofs.bank_refusal.Tie as tie
-use Rattle.stores.proofs.bank_refusal.Reads as reads
-use Rattle.stores.proofs.bank_refusal.Lts as lts
-use Rattle.stores.proofs.size_refusal.Reads as size-refusal-reads
-use Rattle.stores.proofs.store_sound.Reads as store-sound-reads
-use Rattle.stores.proofs.wide.Reads as wide-reads
 
 -- the two stores, the refusal over their sizes, and the rest of the test
 abbrev U : tie.After-size-refusal → List ℕ
@@ -34,40 +29,32 @@ sound : (d : tie.After-store-sound) → d .store-sound .result ≡ soundStore (U
 sound d = let z = d .before .before in
     d .store-sound .ensures ∙ ap (λ (n : ℕ). soundStore (U z) n) (z .before .wide .ensures)
 
--- src/lib.rt:139:9
 returns : tie.Need-returns
 returns c = let s = c .before .before .before in
     short (s .args .bank .now) (s .args .bank-f .now) (c .if1 .taken)
 
--- src/lib.rt:141:18
 shared-slice-read-wide : tie.Need-shared-slice-read-wide
 shared-slice-read-wide c = search needs
 
--- src/lib.rt:141:9
 wide-requires : tie.Need-wide-requires
 wide-requires c κs = search needs
 
--- src/lib.rt:142:9
 size-refusal-requires : tie.Need-size-refusal-requires
 size-refusal-requires c κs = search needs
 
--- src/lib.rt:144:9
 returns-2 : tie.Need-returns-2
 returns-2 c = let z = c .before in
     size z ∙ wrong-size (U z) (F z) (omega arith) (λ q. c .if2 .taken (size z ∙ q))
 
--- src/lib.rt:146:8
 store-sound-requires : tie.Need-store-sound-requires
 store-sound-requires c κs = let z = c .before in
     let g = fit 9 (length (U z)) (length (F z)) (z .before .wide .result) (omega arith) (sym (z .size-refusal .ensures) ∙ c .if2 .left) in
     (g .high, g .long)
 
--- src/lib.rt:147:9
 returns-3 : tie.Need-returns-3
 returns-3 c = let d = c .before in
     told (U (d .before .before)) (F (d .before .before)) (omega arith) 0 (none (d .before)) (ap (λ (b : Bool). first (not b) 9 0) (sym (c .if3 .taken) ∙ sound d))
 
--- src/lib.rt:135:1
 returns-4 : tie.Need-returns-4
 returns-4 c = let d = c .before in
     told (U (d .before .before)) (F (d .before .before)) (omega arith) 9 (none (d .before)) (ap (λ (b : Bool). first (not b) 9 0) (sym (c .if3 .left) ∙ sound d))

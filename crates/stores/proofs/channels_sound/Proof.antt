@@ -1,22 +1,18 @@
-use Prim.Native.Nat.{ℕ, _≤_, _-_, _+_, _*_}
 use mathlib.Core.Path.{_≡_, refl, sym, ap, _∙_}
 use mathlib.Core.Bool.{Bool, true}
 use mathlib.Core.List.{List}
-use borrow.Author.Tests.{not-true, not-false}
+use Prim.Native.Nat.{ℕ, _≤_, _-_, _+_, _*_}
 use native.Mathlib.Omega.{arith}
+use borrow.Author.Tests.{not-true, not-false}
+use borrow.Author.Needs.{needs}
 use Rattle.laws.specs.Lists.{part}
 use Rattle.laws.specs.Tests.{allBelow}
 use Rattle.laws.proofs.Lists.{width, length-part}
 use Rattle.laws.proofs.Tests.{all-more, all-fails, all-done}
 use Rattle.model.specs.Stores.{base, chanOf, chanPart, soundChannel}
 use Rattle.stores.specs.Checks.{soundChannels}
-use borrow.Author.Needs.{needs}
 use Rattle.stores.proofs.channels_sound.Statement.{statement}
 use Rattle.stores.proofs.channels_sound.Tie as tie
-use Rattle.stores.proofs.channels_sound.Reads as reads
-use Rattle.stores.proofs.channels_sound.Lts as lts
-use Rattle.stores.proofs.base.Reads as base-reads
-use Rattle.stores.proofs.sound.channel_sound.Reads as channel-sound-reads
 
 abbrev right : List ℕ → ℕ → ℕ → Bool
 right u n k = soundChannel (chanOf (chanPart n u k))
@@ -38,51 +34,40 @@ answer c = let l = c .before .before .before in
     ∙ ap (λ (w : ℕ). soundChannel (chanOf (part (l .before .base .result + 533 * l .loop .k) w u))) (width (l .before .base .result + 533 * l .loop .k) 533)
     ∙ ap (λ (b : ℕ). soundChannel (chanOf (part (b + 533 * l .loop .k) 533 u))) (l .before .base .ensures .0)
 
--- src/lib.rt:108:9
 base-requires : tie.Need-base-requires Inv-loop μ-loop
 base-requires c κs = search needs
 
--- src/lib.rt:110:5
 loop-holds : tie.Need-loop-holds Inv-loop μ-loop
 unfolding allBelow
 loop-holds c = (search needs, refl)
 
--- src/lib.rt:111:25
 mul-a : tie.Need-mul-a Inv-loop μ-loop
 mul-a c = search needs
 
--- src/lib.rt:111:17
 add-a : tie.Need-add-a Inv-loop μ-loop
 add-a c = search needs
 
--- src/lib.rt:112:17
 add-e : tie.Need-add-e Inv-loop μ-loop
 add-e c = search needs
 
--- src/lib.rt:113:34
 mul-channel-sound : tie.Need-mul-channel-sound Inv-loop μ-loop
 mul-channel-sound c = search needs
 
--- src/lib.rt:113:34
 sub-channel-sound : tie.Need-sub-channel-sound Inv-loop μ-loop
 sub-channel-sound c = search needs
 
--- src/lib.rt:113:34
 part-channel-sound-start : tie.Need-part-channel-sound-start Inv-loop μ-loop
 part-channel-sound-start c = search needs
 
--- src/lib.rt:113:34
 part-channel-sound-end : tie.Need-part-channel-sound-end Inv-loop μ-loop
 part-channel-sound-end c = search needs
 
--- src/lib.rt:113:13
 channel-sound-requires : tie.Need-channel-sound-requires Inv-loop μ-loop
 channel-sound-requires c κs = let l = c .before .before in
     let s = l .before .before .before in
     let a = l .before .base .result + 533 * l .loop .k in
     rw (width a 533) (length-part a 533 (s .args .bank .now) (omega arith))
 
--- src/lib.rt:114:13
 returns : tie.Need-returns Inv-loop μ-loop
 unfolding soundChannels
 returns c = let q = c .before in
@@ -90,22 +75,18 @@ returns c = let q = c .before in
     let s = l .before .before .before in
     sym (all-fails (right (s .args .bank .now) (s .args .n)) (s .args .n) (l .loop .k) (omega arith) (sym (answer q) ∙ not-true _ (c .if1 .taken)))
 
--- src/lib.rt:116:9
 add-k : tie.Need-add-k Inv-loop μ-loop
 add-k c = search needs
 
--- src/lib.rt:110:5
 loop-less : tie.Need-loop-less Inv-loop μ-loop
 loop-less c = search needs
 
--- src/lib.rt:110:5
 loop-again : tie.Need-loop-again Inv-loop μ-loop
 loop-again c = let q = c .before in
     let l = q .before .before .before in
     let s = l .before .before .before in
     (omega arith, all-more (right (s .args .bank .now) (s .args .n)) (l .loop .k) (l .loop .inv .1) (sym (answer q) ∙ not-false _ (c .if1 .left)))
 
--- src/lib.rt:104:1
 returns-2 : tie.Need-returns-2 Inv-loop μ-loop
 unfolding soundChannels
 returns-2 c = let l = c .before in

@@ -1,14 +1,10 @@
 use borrow.Author.Tests.{le-leb, lt-leb}
 use Rattle.stores.proofs.in_band.Statement.{statement}
 use Rattle.stores.proofs.in_band.Tie as tie
-use Rattle.stores.proofs.in_band.Reads as reads
-use Rattle.stores.proofs.in_band.Lts as lts
 
--- src/lib.rt:39:9
 returns : tie.Need-returns
 returns c = simp (lt-leb _ _ (c .if1 .taken))
 
--- src/lib.rt:35:1
 returns-2 : tie.Need-returns-2
 returns-2 c = simp (le-leb _ _ (c .if1 .left))
 

@@ -1,48 +1,38 @@
 use mathlib.Core.Path.{_≡_, sym, _∙_}
 use native.Mathlib.Omega.{arith}
 use borrow.Author.Tests.{lt-ltb, le-ltb}
+use borrow.Author.Needs.{needs}
 use Rattle.laws.proofs.Tests.{stands, goes-on}
 use Rattle.model.specs.Refusals.{bankRefusal, readRefusal}
 use Rattle.stores.proofs.Sizes.{at-least-three}
-use borrow.Author.Needs.{needs}
 use Rattle.stores.proofs.read_refusal.Statement.{statement}
 use Rattle.stores.proofs.read_refusal.Tie as tie
-use Rattle.stores.proofs.read_refusal.Reads as reads
-use Rattle.stores.proofs.read_refusal.Lts as lts
-use Rattle.stores.proofs.bank_refusal.Reads as bank-refusal-reads
-use Rattle.stores.proofs.wide.Reads as wide-reads
 
 none : (e : tie.Else1)
     → bankRefusal (e .before .before .before .before .args .bank .now) (e .before .before .before .before .args .bank-f .now) ≡ 0
 none e = sym (e .before .bank-refusal .ensures) ∙ e .if1 .left
 
--- src/lib.rt:156:9
 bank-refusal-requires : tie.Need-bank-refusal-requires
 bank-refusal-requires c κs = search needs
 
--- src/lib.rt:158:9
 returns : tie.Need-returns
 unfolding readRefusal
 returns c = let r = c .before in
     r .bank-refusal .ensures ∙ stands _ _ (λ q. c .if1 .taken (r .bank-refusal .ensures ∙ q))
 
--- src/lib.rt:160:17
 shared-slice-read-wide : tie.Need-shared-slice-read-wide
 shared-slice-read-wide c = let e = c .before in
     let s = e .before .before .before .before in
     omega (arith, at-least-three (s .args .bank .now) (s .args .bank-f .now) (none e))
 
--- src/lib.rt:160:12
 wide-requires : tie.Need-wide-requires
 wide-requires c κs = search needs
 
--- src/lib.rt:161:9
 returns-2 : tie.Need-returns-2
 unfolding readRefusal
 returns-2 c = let w = c .before in
     goes-on _ _ 0 (none (w .before .before)) (simp (lt-ltb _ _ (rw (w .wide .ensures) at (c .if2 .taken))))
 
--- src/lib.rt:153:1
 returns-3 : tie.Need-returns-3
 unfolding readRefusal
 returns-3 c = let w = c .before in

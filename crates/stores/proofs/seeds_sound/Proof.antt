@@ -1,21 +1,18 @@
-use Prim.Native.Nat.{ℕ, _≤_, _-_, _+_}
-use mathlib.Core.Path.{_≡_, refl, sym, _∙_}
+use mathlib.Core.Path.{_≡_, refl, sym}
 use mathlib.Core.Bool.{Bool, true}
 use mathlib.Core.List.{List}
+use Prim.Native.Nat.{ℕ, _≤_, _-_, _+_}
+use native.Mathlib.Omega.{arith}
 use lib.ListN.{getD}
 use lib.Dec.{leb}
 use borrow.Author.Tests.{le-leb, lt-leb}
-use native.Mathlib.Omega.{arith}
+use borrow.Author.Needs.{needs}
 use Rattle.laws.specs.Tests.{allBelow}
 use Rattle.laws.proofs.Tests.{all-more, all-fails, all-done}
 use Rattle.model.specs.Bank.{blocks}
 use Rattle.stores.specs.Checks.{soundSeeds}
-use borrow.Author.Needs.{needs}
 use Rattle.stores.proofs.seeds_sound.Statement.{statement}
 use Rattle.stores.proofs.seeds_sound.Tie as tie
-use Rattle.stores.proofs.seeds_sound.Reads as reads
-use Rattle.stores.proofs.seeds_sound.Lts as lts
-use Rattle.stores.proofs.blocks.Reads as blocks-reads
 
 abbrev right : List ℕ → ℕ → Bool
 right u b = leb (getD u (3 + b) 0) 25
@@ -26,48 +23,38 @@ Inv-loop bank n end b₀ b = (b ≤ end) × (allBelow b (right bank) ≡ true)
 abbrev μ-loop : tie.MeasureT-loop
 μ-loop bank n end b₀ b = end - b
 
--- src/lib.rt:93:9
 blocks-requires : tie.Need-blocks-requires Inv-loop μ-loop
 blocks-requires c κs = search needs
 
--- src/lib.rt:95:5
 loop-holds : tie.Need-loop-holds Inv-loop μ-loop
 unfolding allBelow
 loop-holds c = (search needs, refl)
 
--- src/lib.rt:96:17
 add-if1 : tie.Need-add-if1 Inv-loop μ-loop
 add-if1 c = search needs
 
--- src/lib.rt:96:12
 mul-if1 : tie.Need-mul-if1 Inv-loop μ-loop
 mul-if1 c = search needs
 
--- src/lib.rt:96:12
 shared-slice-read-if1 : tie.Need-shared-slice-read-if1 Inv-loop μ-loop
 shared-slice-read-if1 c = search needs
 
--- src/lib.rt:97:13
 returns : tie.Need-returns Inv-loop μ-loop
 unfolding soundSeeds
 returns c = let l = c .before .before .before in
     let s = l .before .before .before in
     sym (all-fails (right (s .args .bank .now)) (blocks (s .args .n)) (l .loop .b) (omega arith) (lt-leb _ _ (c .if1 .taken)))
 
--- src/lib.rt:99:9
 add-b : tie.Need-add-b Inv-loop μ-loop
 add-b c = search needs
 
--- src/lib.rt:95:5
 loop-less : tie.Need-loop-less Inv-loop μ-loop
 loop-less c = search needs
 
--- src/lib.rt:95:5
 loop-again : tie.Need-loop-again Inv-loop μ-loop
 loop-again c = let l = c .before .before .before in
     (omega arith, all-more (right (l .before .before .before .args .bank .now)) (l .loop .b) (l .loop .inv .1) (le-leb _ _ (c .if1 .left)))
 
--- src/lib.rt:89:1
 returns-2 : tie.Need-returns-2 Inv-loop μ-loop
 unfolding soundSeeds
 returns-2 c = let l = c .before in

@@ -1,16 +1,11 @@
 use mathlib.Core.Path.{_≡_, sym, _∙_}
-use borrow.Author.Tests.{not-true, not-false}
 use mathlib.Core.Bool.{true}
+use borrow.Author.Tests.{not-true, not-false}
+use borrow.Author.Needs.{needs}
 use Rattle.laws.specs.Tests.{within}
 use Rattle.stores.proofs.Sizes.{off-band, misfit, misfit-f, fits}
-use borrow.Author.Needs.{needs}
 use Rattle.stores.proofs.size_refusal.Statement.{statement}
 use Rattle.stores.proofs.size_refusal.Tie as tie
-use Rattle.stores.proofs.size_refusal.Reads as reads
-use Rattle.stores.proofs.size_refusal.Lts as lts
-use Rattle.stores.proofs.bank_f_len.Reads as bank-f-len-reads
-use Rattle.stores.proofs.bank_len.Reads as bank-len-reads
-use Rattle.stores.proofs.in_band.Reads as in-band-reads
 
 abbrev start : tie.Else1 → tie.Start
 start c = c .before .before
@@ -18,37 +13,30 @@ start c = c .before .before
 band : (c : tie.Else1) → within 1 512 (start c .args .n) ≡ true
 band c = sym (c .before .in-band .ensures) ∙ not-false _ (c .if1 .left)
 
--- src/lib.rt:68:9
 in-band-requires : tie.Need-in-band-requires
 in-band-requires c κs = search needs
 
--- src/lib.rt:69:9
 returns : tie.Need-returns
 returns c = let s = c .before .before in
     off-band (s .args .band) (s .args .u-len) (s .args .f-len) (s .args .n) (sym (c .before .in-band .ensures) ∙ not-true _ (c .if1 .taken))
 
--- src/lib.rt:71:17
 bank-len-requires : tie.Need-bank-len-requires
 bank-len-requires c κs = search needs
 
--- src/lib.rt:72:9
 returns-2 : tie.Need-returns-2
 returns-2 c = let b = c .before in
     let s = start (b .before) in
     misfit (s .args .band) (s .args .u-len) (s .args .f-len) (s .args .n) (band (b .before)) (λ q. c .if2 .taken (q ∙ sym (b .bank-len .ensures)))
 
--- src/lib.rt:74:17
 bank-f-len-requires : tie.Need-bank-f-len-requires
 bank-f-len-requires c κs = search needs
 
--- src/lib.rt:75:9
 returns-3 : tie.Need-returns-3
 returns-3 c = let b = c .before in
     let e = b .before in
     let s = start (e .before .before) in
     misfit-f (s .args .band) (s .args .u-len) (s .args .f-len) (s .args .n) (band (e .before .before)) (e .if2 .left ∙ e .before .bank-len .ensures) (λ q. c .if3 .taken (q ∙ sym (b .bank-f-len .ensures)))
 
--- src/lib.rt:65:1
 returns-4 : tie.Need-returns-4
 returns-4 c = let b = c .before in
     let e = b .before in

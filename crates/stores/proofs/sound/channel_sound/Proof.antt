@@ -3,16 +3,11 @@ use mathlib.Core.Bool.{true}
 use mathlib.Core.List.{List}
 use Prim.Native.Nat.{ℕ}
 use borrow.Author.Tests.{not-true, not-false}
+use borrow.Author.Needs.{needs}
 use Rattle.stores.specs.Fails.{strayEntries}
 use Rattle.stores.proofs.Checks.{fieldsOf, fields-filled, fields-fail, ring-fails, counts-decide}
-use borrow.Author.Needs.{needs}
 use Rattle.stores.proofs.sound.channel_sound.Statement.{statement}
 use Rattle.stores.proofs.sound.channel_sound.Tie as tie
-use Rattle.stores.proofs.sound.channel_sound.Reads as reads
-use Rattle.stores.proofs.sound.channel_sound.Lts as lts
-use Rattle.stores.proofs.sound.counts_sound.Reads as counts-sound-reads
-use Rattle.stores.proofs.sound.fields_sound.Reads as fields-sound-reads
-use Rattle.stores.proofs.sound.stray_entries.Reads as stray-entries-reads
 
 abbrev chan : tie.Else2 → tie.Start
 chan c = c .before .before .before .before .before .before .before .before .before
@@ -27,44 +22,34 @@ fields c = let e = c .before .before in
 none : (c : tie.Else2) → strayEntries (S (c .before .before .before)) ≡ 0
 none c = sym (c .before .stray-entries .ensures) ∙ c .if2 .left
 
--- src/sound.rt:105:18
 shared-slice-read-filled : tie.Need-shared-slice-read-filled
 shared-slice-read-filled c = search needs
 
--- src/sound.rt:106:22
 shared-slice-read-fields-sound : tie.Need-shared-slice-read-fields-sound
 shared-slice-read-fields-sound c = search needs
 
--- src/sound.rt:106:41
 shared-slice-read-fields-sound-2 : tie.Need-shared-slice-read-fields-sound-2
 shared-slice-read-fields-sound-2 c = search needs
 
--- src/sound.rt:106:52
 shared-slice-read-fields-sound-3 : tie.Need-shared-slice-read-fields-sound-3
 shared-slice-read-fields-sound-3 c = search needs
 
--- src/sound.rt:106:9
 fields-sound-requires : tie.Need-fields-sound-requires
 fields-sound-requires c κs = search needs
 
--- src/sound.rt:107:9
 returns : tie.Need-returns
 returns c = fields-fail (S (c .before)) (sym (c .before .fields-sound .ensures) ∙ not-true _ (c .if1 .taken))
 
--- src/sound.rt:109:8
 stray-entries-requires : tie.Need-stray-entries-requires
 stray-entries-requires c κs = search needs
 
--- src/sound.rt:110:9
 returns-2 : tie.Need-returns-2
 returns-2 c = let e = c .before in
     ring-fails (S (e .before .before)) (λ q. c .if2 .taken (e .stray-entries .ensures ∙ q))
 
--- src/sound.rt:112:5
 counts-sound-requires : tie.Need-counts-sound-requires
 counts-sound-requires c κs = ((chan c .pre, refl, fields-filled (chan c .args .chan .now) (fields c)), none c)
 
--- src/sound.rt:101:1
 returns-3 : tie.Need-returns-3
 returns-3 c = let e = c .before in
     c .counts-sound .ensures ∙ counts-decide (S (e .before .before .before)) (fields e) (none e)

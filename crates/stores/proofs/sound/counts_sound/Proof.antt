@@ -1,27 +1,20 @@
-use mathlib.Core.Path.{_≡_, sym, ap, _∙_}
+use mathlib.Core.Path.{ap, _∙_}
 use Prim.Native.Nat.{ℕ}
 use native.Mathlib.Omega.{arith}
 use lib.Dec.{eqb}
 use lib.ListN.{take}
+use borrow.Author.Needs.{needs}
 use Rattle.laws.specs.Lists.{occ}
 use Rattle.stores.proofs.Checks.{counts-sound}
-use borrow.Author.Needs.{needs}
 use Rattle.stores.proofs.sound.counts_sound.Statement.{statement}
 use Rattle.stores.proofs.sound.counts_sound.Tie as tie
-use Rattle.stores.proofs.sound.counts_sound.Reads as reads
-use Rattle.stores.proofs.sound.counts_sound.Lts as lts
-use Rattle.stores.proofs.sound.tally.Reads as tally-reads
-use Rattle.stores.proofs.sound.wrong_counts.Reads as wrong-counts-reads
 
--- src/sound.rt:97:13
 tally-requires : tie.Need-tally-requires
 tally-requires c κs = search needs
 
--- src/sound.rt:98:5
 wrong-counts-requires : tie.Need-wrong-counts-requires
 wrong-counts-requires c κs = search needs
 
--- src/sound.rt:92:1
 returns : tie.Need-returns
 returns c = let t = c .before .before in
     let s = t .before .before in

@@ -1,14 +1,10 @@
 use borrow.Author.Tests.{eq-eqb, ne-eqb}
 use Rattle.stores.proofs.sound.one_if_differs.Statement.{statement}
 use Rattle.stores.proofs.sound.one_if_differs.Tie as tie
-use Rattle.stores.proofs.sound.one_if_differs.Reads as reads
-use Rattle.stores.proofs.sound.one_if_differs.Lts as lts
 
--- src/sound.rt:43:9
 returns : tie.Need-returns
 returns c = simp (eq-eqb _ _ (c .if1 .taken))
 
--- src/sound.rt:39:1
 returns-2 : tie.Need-returns-2
 returns-2 c = simp (ne-eqb _ _ (c .if1 .left))
 

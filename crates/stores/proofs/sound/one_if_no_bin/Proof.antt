@@ -1,14 +1,10 @@
 use borrow.Author.Tests.{lt-ltb, le-ltb}
 use Rattle.stores.proofs.sound.one_if_no_bin.Statement.{statement}
 use Rattle.stores.proofs.sound.one_if_no_bin.Tie as tie
-use Rattle.stores.proofs.sound.one_if_no_bin.Reads as reads
-use Rattle.stores.proofs.sound.one_if_no_bin.Lts as lts
 
--- src/sound.rt:34:9
 returns : tie.Need-returns
 returns c = simp (lt-ltb _ _ (c .if1 .taken))
 
--- src/sound.rt:30:1
 returns-2 : tie.Need-returns-2
 returns-2 c = simp (le-ltb _ _ (c .if1 .left))
 

@@ -1,14 +1,11 @@
+use mathlib.Core.Path.{_≡_, refl, ap, _∙_}
 use Prim.Native.Nat.{ℕ, _≤_, _-_, _+_}
-use mathlib.Core.Path.{_≡_, refl, sym, ap, _∙_}
 use native.Mathlib.Omega.{arith}
+use borrow.Author.Needs.{needs}
 use Rattle.stores.specs.Fails.{fails, isBin, strayEntries}
 use Rattle.stores.proofs.Checks.{count-more, fails-le}
-use borrow.Author.Needs.{needs}
 use Rattle.stores.proofs.sound.stray_entries.Statement.{statement}
 use Rattle.stores.proofs.sound.stray_entries.Tie as tie
-use Rattle.stores.proofs.sound.stray_entries.Reads as reads
-use Rattle.stores.proofs.sound.stray_entries.Lts as lts
-use Rattle.stores.proofs.sound.one_if_no_bin.Reads as one-if-no-bin-reads
 
 abbrev Inv-loop : tie.InvT-loop
 Inv-loop chan stray₀ i₀ stray i = (i ≤ 250) × (stray ≡ fails i (isBin chan))
@@ -21,40 +18,31 @@ more : (c : tie.After-one-if-no-bin Inv-loop μ-loop)
 more c = let l = c .before .before .before in
     count-more (l .loop .i) (isBin (l .before .before .args .chan .now)) _ _ (l .loop .inv .1) (c .one-if-no-bin .ensures)
 
--- src/sound.rt:55:5
 loop-holds : tie.Need-loop-holds Inv-loop μ-loop
 unfolding fails
 loop-holds c = (search needs, refl)
 
--- src/sound.rt:56:32
 mul-one-if-no-bin : tie.Need-mul-one-if-no-bin Inv-loop μ-loop
 mul-one-if-no-bin c = search needs
 
--- src/sound.rt:56:32
 shared-slice-read-one-if-no-bin : tie.Need-shared-slice-read-one-if-no-bin Inv-loop μ-loop
 shared-slice-read-one-if-no-bin c = search needs
 
--- src/sound.rt:56:18
 one-if-no-bin-requires : tie.Need-one-if-no-bin-requires Inv-loop μ-loop
 one-if-no-bin-requires c κs = search needs
 
--- src/sound.rt:56:9
 add-stray : tie.Need-add-stray Inv-loop μ-loop
 add-stray c = omega (arith, more c, fails-le (c .before .before .before .loop .i + 1) (isBin (c .before .before .before .before .before .args .chan .now)))
 
--- src/sound.rt:57:9
 add-i : tie.Need-add-i Inv-loop μ-loop
 add-i c = search needs
 
--- src/sound.rt:55:5
 loop-less : tie.Need-loop-less Inv-loop μ-loop
 loop-less c = search needs
 
--- src/sound.rt:55:5
 loop-again : tie.Need-loop-again Inv-loop μ-loop
 loop-again c = (omega arith, more c)
 
--- src/sound.rt:49:1
 returns : tie.Need-returns Inv-loop μ-loop
 unfolding strayEntries
 returns c = let l = c .before in

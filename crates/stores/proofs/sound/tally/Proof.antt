@@ -1,15 +1,13 @@
-use Prim.Native.Nat.{ℕ, _≤_, _<_, _-_}
 use mathlib.Core.Path.{_≡_}
+use Prim.Native.Nat.{ℕ, _≤_, _<_, _-_}
 use native.Mathlib.Omega.{arith}
 use lib.ListN.{length, getD, take, getD-replicate, length-set}
 use lib.Seq.{length-take-le}
+use borrow.Author.Needs.{needs}
 use Rattle.laws.specs.Lists.{occ}
 use Rattle.stores.proofs.Checks.{entry-below, occ-le, tally-more}
-use borrow.Author.Needs.{needs}
 use Rattle.stores.proofs.sound.tally.Statement.{statement}
 use Rattle.stores.proofs.sound.tally.Tie as tie
-use Rattle.stores.proofs.sound.tally.Reads as reads
-use Rattle.stores.proofs.sound.tally.Lts as lts
 
 abbrev Inv-loop : tie.InvT-loop
 Inv-loop chan filled t₀ i₀ t i = (i ≤ filled) × (length t ≡ 280) × ((b : ℕ) → b < 280 → getD t b 0 ≡ occ b (take i chan))
@@ -21,60 +19,47 @@ abbrev μ-loop : tie.MeasureT-loop
 bin : (c : tie.In-loop Inv-loop μ-loop) → getD (c .before .before .args .chan .now) (c .before .loop .i) 0 < 280
 bin c = entry-below (c .before .before .args .chan .now) (c .before .loop .i) (c .before .before .pre .1) (omega arith)
 
--- src/sound.rt:70:5
 loop-holds : tie.Need-loop-holds Inv-loop μ-loop
 loop-holds c = (search needs, search needs, (λ b h. getD-replicate 280 b 0 0 h))
 
--- src/sound.rt:71:17
 mul-b : tie.Need-mul-b Inv-loop μ-loop
 mul-b c = search needs
 
--- src/sound.rt:71:17
 shared-slice-read-b : tie.Need-shared-slice-read-b Inv-loop μ-loop
 shared-slice-read-b c = search needs
 
--- src/sound.rt:71:17
 cast-b : tie.Need-cast-b Inv-loop μ-loop
 cast-b c = omega (arith, bin (c .before))
 
--- src/sound.rt:72:16
 mul-t : tie.Need-mul-t Inv-loop μ-loop
 mul-t c = omega (arith, bin (c .before))
 
--- src/sound.rt:72:16
 array-read-t : tie.Need-array-read-t Inv-loop μ-loop
 array-read-t c = omega (arith, bin (c .before))
 
--- src/sound.rt:72:16
 add-t : tie.Need-add-t Inv-loop μ-loop
 add-t c = let l = c .before .before in
     let ch = l .before .args .chan .now in
     let x = getD ch (l .loop .i) 0 in
     omega (arith, l .loop .inv .2 x (bin (c .before)), occ-le x (take (l .loop .i) ch), length-take-le (l .loop .i) ch (omega arith))
 
--- src/sound.rt:72:9
 mul-t-2 : tie.Need-mul-t-2 Inv-loop μ-loop
 mul-t-2 c = omega (arith, bin (c .before))
 
--- src/sound.rt:72:9
 array-write-t : tie.Need-array-write-t Inv-loop μ-loop
 array-write-t c = omega (arith, bin (c .before))
 
--- src/sound.rt:73:9
 add-i : tie.Need-add-i Inv-loop μ-loop
 add-i c = search needs
 
--- src/sound.rt:70:5
 loop-less : tie.Need-loop-less Inv-loop μ-loop
 loop-less c = search needs
 
--- src/sound.rt:70:5
 loop-again : tie.Need-loop-again Inv-loop μ-loop
 loop-again c = let l = c .before .before in
     let ch = l .before .args .chan .now in
     (omega arith, simp length-set (l .loop .inv .1), tally-more 280 ch (l .loop .t) (l .loop .i) (l .loop .inv .1) (omega arith) (bin (c .before)) (l .loop .inv .2))
 
--- src/sound.rt:63:1
 returns : tie.Need-returns Inv-loop μ-loop
 returns c = let l = c .before in
     let e : l .loop .i ≡ l .before .args .filled = omega arith in

@@ -1,14 +1,11 @@
+use mathlib.Core.Path.{_≡_, refl, ap, _∙_}
 use Prim.Native.Nat.{ℕ, _≤_, _-_, _+_}
-use mathlib.Core.Path.{_≡_, refl, sym, ap, _∙_}
 use native.Mathlib.Omega.{arith}
+use borrow.Author.Needs.{needs}
 use Rattle.stores.specs.Fails.{fails, isTallied, wrongCounts}
 use Rattle.stores.proofs.Checks.{count-more, fails-le}
-use borrow.Author.Needs.{needs}
 use Rattle.stores.proofs.sound.wrong_counts.Statement.{statement}
 use Rattle.stores.proofs.sound.wrong_counts.Tie as tie
-use Rattle.stores.proofs.sound.wrong_counts.Reads as reads
-use Rattle.stores.proofs.sound.wrong_counts.Lts as lts
-use Rattle.stores.proofs.sound.one_if_differs.Reads as one-if-differs-reads
 
 abbrev Inv-loop : tie.InvT-loop
 Inv-loop chan t wrong₀ b₀ wrong b = (b ≤ 280) × (wrong ≡ fails b (isTallied chan t))
@@ -21,52 +18,40 @@ more : (c : tie.After-one-if-differs Inv-loop μ-loop)
 more c = let l = c .before .before .before .before in
     count-more (l .loop .b) (isTallied (l .before .before .args .chan .now) (l .before .before .args .t .now)) _ _ (l .loop .inv .1) (c .one-if-differs .ensures)
 
--- src/sound.rt:85:5
 loop-holds : tie.Need-loop-holds Inv-loop μ-loop
 unfolding fails
 loop-holds c = (search needs, refl)
 
--- src/sound.rt:86:38
 add-one-if-differs : tie.Need-add-one-if-differs Inv-loop μ-loop
 add-one-if-differs c = search needs
 
--- src/sound.rt:86:33
 mul-one-if-differs : tie.Need-mul-one-if-differs Inv-loop μ-loop
 mul-one-if-differs c = search needs
 
--- src/sound.rt:86:33
 shared-slice-read-one-if-differs : tie.Need-shared-slice-read-one-if-differs Inv-loop μ-loop
 shared-slice-read-one-if-differs c = search needs
 
--- src/sound.rt:86:48
 mul-one-if-differs-2 : tie.Need-mul-one-if-differs-2 Inv-loop μ-loop
 mul-one-if-differs-2 c = search needs
 
--- src/sound.rt:86:48
 element-copy-out-one-if-differs : tie.Need-element-copy-out-one-if-differs Inv-loop μ-loop
 element-copy-out-one-if-differs c = search needs
 
--- src/sound.rt:86:18
 one-if-differs-requires : tie.Need-one-if-differs-requires Inv-loop μ-loop
 one-if-differs-requires c κs = search needs
 
--- src/sound.rt:86:9
 add-wrong : tie.Need-add-wrong Inv-loop μ-loop
 add-wrong c = omega (arith, more c, fails-le (c .before .before .before .before .loop .b + 1) (isTallied (c .before .before .before .before .before .before .args .chan .now) (c .before .before .before .before .before .before .args .t .now)))
 
--- src/sound.rt:87:9
 add-b : tie.Need-add-b Inv-loop μ-loop
 add-b c = search needs
 
--- src/sound.rt:85:5
 loop-less : tie.Need-loop-less Inv-loop μ-loop
 loop-less c = search needs
 
--- src/sound.rt:85:5
 loop-again : tie.Need-loop-again Inv-loop μ-loop
 loop-again c = (omega arith, more c)
 
--- src/sound.rt:79:1
 returns : tie.Need-returns Inv-loop μ-loop
 unfolding wrongCounts
 returns c = let l = c .before in
