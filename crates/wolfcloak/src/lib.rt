@@ -1,6 +1,6 @@
 // The C interface: each call of the bank in a form that C can pass. An enum, a struct or a returned part is taken apart here.
 ghost use mathlib.Core.Path.{_≡_};
-ghost use Rattle.model.specs.Calls.{bankLenFor, bankFLenFor};
+ghost use Rattle.model.specs.Calls.{bankLenFor, bankFLenFor, bankNew};
 ghost use Rattle.model.specs.Readings.{rawReading, effectiveReading, riseReading, referenceReading, floorsReading};
 ghost use Rattle.wolfcloak.specs.Answers.{answered, floorsAnswered, ringAnswered};
 
@@ -16,6 +16,13 @@ pub extern "C" fn wolfcloak_bank_f_len(n: usize) -> usize
     ensures { λ r. ⌜ r ≡ bankFLenFor n ⌝ }
 {
     stores::bank_f_len(n)
+}
+
+#[no_mangle]
+pub extern "C" fn wolfcloak_bank_new(bank: &mut [u16], bank_f: &mut [f64], n: usize) -> u16
+    ensures { λ r. ⌜ (r, now (bank .exit), now («bank_f» .exit)) ≡ bankNew (now (bank .entry)) (now («bank_f» .entry)) n ⌝ }
+{
+    stores::making::bank_new(bank, bank_f, n)
 }
 
 // A reading's number, its value written only if it has one.
