@@ -24,7 +24,7 @@ module _ {A : Type 0} where
   count-append p [] ys = omega arith
   count-append p (x ∷ xs) ys = omega (arith, count-append p xs ys)
 
-  count-le : (p : A → Bool) (l : List A) → count p l ≤ length l
+  pub count-le : (p : A → Bool) (l : List A) → count p l ≤ length l
   count-le p [] = omega arith
   count-le p (x ∷ l) = omega (arith, one-le (p x), count-le p l)
 

@@ -52,12 +52,8 @@ fn not_below_seed(x: f64, early: bool, pushes: u16, sum: f64) -> f64
 pub fn effective_floor(usable: f64, block_floor: f64, since: u16, pushes: u16, sum: f64) -> f64
     ensures { λ r. ⌜ r ≡ effectiveFloor usable «block_floor» since pushes sum ⌝ }
 {
-    not_below_seed(
-        least(usable, block_floor + BLOCK_ALLOWANCE_DB),
-        since < SEED_PUSHES,
-        pushes,
-        sum,
-    )
+    let own = least(usable, block_floor + BLOCK_ALLOWANCE_DB);
+    not_below_seed(own, since < SEED_PUSHES, pushes, sum)
 }
 
 // The seed holds the rise floor up until the ring is full, the effective floor only for the first second.
@@ -65,10 +61,6 @@ pub fn rise_floor(usable: f64, block_floor: f64, since: u16, pushes: u16, sum: f
     ensures { λ r. ⌜ r ≡ riseFloor usable «block_floor» since pushes sum ⌝ }
 {
     let effective = effective_floor(usable, block_floor, since, pushes, sum);
-    not_below_seed(
-        greatest(effective, block_floor),
-        since < RING_LEN,
-        pushes,
-        sum,
-    )
+    let risen = greatest(effective, block_floor);
+    not_below_seed(risen, since < RING_LEN, pushes, sum)
 }

@@ -64,7 +64,8 @@ pub fn median(l: &[f64]) -> f64
         return ranked_value(l, middle);
     }
     let lower = ranked_value(l, middle - 1);
-    0.5 * (lower + ranked_value(l, middle))
+    let upper = ranked_value(l, middle);
+    0.5 * (lower + upper)
 }
 
 // Block i's median: of 32 values, or of what is left in the last block.

@@ -23,10 +23,10 @@ pub fn start_powers(smooth: &mut [f64], power: &[f32])
     requires { ⌜ length (now power) ≡ length (now smooth) ⌝ }
     ensures { λ _. ⌜ now (smooth .exit) ≡ tab (length (now (smooth .entry))) (λ k. powerLinear (getD (now (power .entry)) k f0)) ⌝ }
 {
-    let mut k: usize = 0;
-    while k < smooth.len() {
-        smooth[k] = power_linear(power[k]);
-        k += 1;
+    let mut i: usize = 0;
+    while i < smooth.len() {
+        smooth[i] = power_linear(power[i]);
+        i += 1;
     }
 }
 

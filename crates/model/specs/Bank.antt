@@ -83,6 +83,9 @@ pub record Hop : Type 0 where
   pub db : List Float
   pub power : List Float
 
+abbrev pub hop : Bool → List Float → List Float → Hop
+hop held db power = record { held = held; db = db; power = power }
+
 -- ---- (a) the smoothed powers
 
 -- on the first ever, power_linear; later, unless held, s + 0.0645 × (linear - s)

@@ -1,15 +1,14 @@
 -- The floor of a float that two comparisons have bounded, and that a bin is below 280. Assumes nothing.
-use mathlib.Core.Path.{_≡_, refl, sym, ap, subst, _∙_}
-use mathlib.Core.Bool.{Bool, true, false, cond, not, _&&_, _||_}
-use Prim.Native.Nat.{ℕ, zero, suc, _+_, _-_, _*_, _/_, _^_, _<_, _≤_, min}
+use mathlib.Core.Path.{_≡_, refl, sym, subst, _∙_}
+use mathlib.Core.Bool.{Bool, true, false, _&&_, _||_}
+use Prim.Native.Nat.{ℕ, zero, suc, _+_, _*_, _/_, _^_, _<_, _≤_}
 use native.Mathlib.Nat.{div-lt-iff-lt-mul, le-div-iff-mul-le, zero-mul, mul-one, mul-le-mul-right}
 use native.Mathlib.Omega.{arith}
-use lib.Dec.{T, ltb, leb, eqb, eqb-refl}
-use lib.IntN.{ℤ, pos, negsuc}
-use lib.Ieee.{Float, nan, inf, fin, up, down, binary64, add, div, lt, le, eq, ne, isNan, toUnsigned}
-use lib.Ieee.Fits.{down-pos, up-pos}
-use lib.Ieee.Bits.{is-true, is-false}
-use borrow.Author.Tests.{ltb-true, ltb-false, eqb-true, lt-ltb, le-ltb, eq-eqb}
+use lib.Dec.{T, ltb, eqb}
+use lib.IntN.{pos}
+use lib.Ieee.{Float, nan, inf, fin, up, down, binary64, add, div, lt, le, eq, toUnsigned}
+use lib.Ieee.Fits.{down-pos}
+use borrow.Author.Tests.{ltb-true, ltb-false, eqb-true, lt-ltb}
 use Rattle.laws.proofs.Tests.{clash, and-l}
 use Rattle.model.specs.Numbers.{f140, half}
 use Rattle.model.specs.Ring.{floorHeld, binOf}

@@ -1,9 +1,9 @@
--- One channel's ring of bins, as the document has it, over a ring length R (250) and K bins (280), and the history law of one channel:
--- what the newest j entries are, and how much of the lead is left. Assumes nothing.
+-- The history of one channel, for a ring of R places (250) and K bins (280): what its newest j entries are, and how much of the lead is left
+-- after j pushes. Nothing here computes a list of 250. Assumes nothing.
 use mathlib.Core.Path.{_≡_, refl, sym, ap, _∙_, subst}
 use mathlib.Core.List.{List, [], _∷_, _++_}
 use mathlib.Core.Bool.{Bool, true, false, _&&_}
-use Prim.Native.Nat.{ℕ, zero, suc, _+_, _-_, _≤_, _<_, _%_, min}
+use Prim.Native.Nat.{ℕ, suc, _+_, _-_, _≤_, _<_, _%_, min}
 use native.Mathlib.Nat.{mod-lt, mod-eq-of-lt}
 use native.Mathlib.Numerals.{add-one}
 use native.Mathlib.Decide.{ℕ-discrete, decLt}
@@ -87,6 +87,11 @@ module _ (R K : ℕ) (small : R < 255) where
       go : Dec (c .filled ≡ R) → c .next ≤ c .filled
       go (yes e) = omega arith
       go (no e) = omega (arith, s (omega arith))
+
+  -- the window has the entries of the ring
+  window-entries : (c : ChannelFloor) → length (c .ring) ≡ R → c .next < R → c .filled ≤ R → (c .filled < R → c .next ≡ c .filled) → (x : ℕ)
+      → occ x (W c) ≡ occ x (entries c)
+  window-entries c l n f s x = occ-win x (c .next) (c .filled) (c .ring) (next-within c n f s) (omega arith)
 
   pub length-W : (c : ChannelFloor) → Good R K c → length (W c) ≡ c .filled
   length-W c g =
@@ -301,6 +306,13 @@ module _ (R K : ℕ) (small : R < 255) where
         (let h′ : x < K = omega (arith, f .good .counts-length) in
         f .good .tallied x h′ ∙ ap (occ x) (windows-equal c d f g e) ∙ sym (g .good .tallied x h′)))
 
+    -- each bin is as often in the one ring as in the other
+    pub entries-equal : (c d : ChannelFloor) → Fading j c → Fading j d → newest j (W c) ≡ newest j (W d) → (x : ℕ) → occ x (entries c) ≡ occ x (entries d)
+    entries-equal c d f g e x = sym (of c (f .good)) ∙ ap (occ x) (windows-equal c d f g e) ∙ of d (g .good)
+      where
+        of : (c : ChannelFloor) → Good R K c → occ x (W c) ≡ occ x (entries c)
+        of c g = window-entries c (g .ring-length) (g .next-below) (g .filled-within) (g .at-start) x
+
 -- ---- the document's soundness, and the window's
 
 pub sound-good : (R K : ℕ) → R < 255 → 0 < K → (c : ChannelFloor) → Sound R K c → Good R K c
@@ -313,14 +325,9 @@ sound-good R K small some c s =
       filled-within = s .filled-within;
       at-start = s .at-start;
       bins-below = s .bins-below;
-      tallied = λ x h. s .recount x h ∙ sym (same x);
-      lead-within = omega (arith, s .lead-within, s .recount 0 some, same 0);
+      tallied = λ x h. s .recount x h ∙ sym (window-entries R K small c (s .ring-length) (s .next-below) (s .filled-within) (s .at-start) x);
+      lead-within = omega (arith, s .lead-within, s .recount 0 some, window-entries R K small c (s .ring-length) (s .next-below) (s .filled-within) (s .at-start) 0);
     }
-  where
-    same : (x : ℕ) → occ x (W c) ≡ occ x (entries c)
-    same x =
-        occ-win x (c .next) (c .filled) (c .ring) (next-within R K small c (s .next-below) (s .filled-within) (s .at-start))
-        (omega (arith, s .ring-length, s .filled-within))
 
 pub good-sound : (R K : ℕ) → R < 255 → 0 < K → (c : ChannelFloor) → Good R K c → Sound R K c
 unfolding Tallied
@@ -332,48 +339,6 @@ good-sound R K small some c s =
       filled-within = s .filled-within;
       at-start = s .at-start;
       bins-below = s .bins-below;
-      recount = λ x h. s .tallied x h ∙ same x;
-      lead-within = omega (arith, s .lead-within, s .tallied 0 some, same 0);
+      recount = λ x h. s .tallied x h ∙ window-entries R K small c (s .ring-length) (s .next-below) (s .filled-within) (s .at-start) x;
+      lead-within = omega (arith, s .lead-within, s .tallied 0 some, window-entries R K small c (s .ring-length) (s .next-below) (s .filled-within) (s .at-start) 0);
     }
-  where
-    same : (x : ℕ) → occ x (W c) ≡ occ x (entries c)
-    same x =
-        occ-win x (c .next) (c .filled) (c .ring) (next-within R K small c (s .next-below) (s .filled-within) (s .at-start))
-        (omega (arith, s .ring-length, s .filled-within))
-
--- ---- demand 3 for one channel: any two sound states, the same pushes, R or more of them, the lead never rising
-
-abbrev pub pushes : ℕ → ChannelFloor → List ℕ → ChannelFloor
-pushes R c [] = c
-pushes R c (b ∷ bs) = pushes R (pushIn R false c b) bs
-
-abbrev pub AllBelow : ℕ → List ℕ → Type 0
-AllBelow K [] = Unit {0}
-AllBelow K (b ∷ bs) = (b < K) × AllBelow K bs
-
-pub record Forgot (R : ℕ) (c d : ChannelFloor) : Type 0 where
-  pub counts : c .counts ≡ d .counts
-  pub filled₁ : c .filled ≡ R
-  pub filled₂ : d .filled ≡ R
-  pub lead₁ : c .lead ≡ 0
-  pub lead₂ : d .lead ≡ 0
-
-pub channel-forgets : (R K : ℕ) → R < 255 → 0 < K → (c d : ChannelFloor) → Sound R K c → Sound R K d → (bs : List ℕ) → AllBelow K bs → R ≤ length bs
-    → Forgot R (pushes R c bs) (pushes R d bs)
-channel-forgets R K small some c d s t bs a h =
-    go bs a 0 c d (fading-start R K small c (sound-good R K small some c s)) (fading-start R K small d (sound-good R K small some d t)) (near-start R K small c d) (omega arith)
-  where
-    go : (bs : List ℕ) → AllBelow K bs → (j : ℕ) (c d : ChannelFloor) → Fading R K small j c → Fading R K small j d → newest j (W c) ≡ newest j (W d) → R ≤ j + length bs
-        → Forgot R (pushes R c bs) (pushes R d bs)
-    go [] a j c d f g e h =
-        let far : R ≤ j = omega arith in
-        record {
-          counts = counts-equal R K small j far c d f g e;
-          filled₁ = filled-up R K small j far c f;
-          filled₂ = filled-up R K small j far d g;
-          lead₁ = lead-gone R K small j far c f;
-          lead₂ = lead-gone R K small j far d g;
-        }
-    go (b ∷ bs) a j c d f g e h =
-        go bs (a .1) (suc j) (pushIn R false c b) (pushIn R false d b) (fading-in R K small j c b f (a .0)) (fading-in R K small j d b g (a .0))
-        (near-in R K small j false false c d b (f .good) (g .good) (a .0) e) (omega arith)

@@ -1,15 +1,15 @@
 -- Lists as queues: how often a number occurs, the newest j entries and the older ones, and the window of a ring, oldest entry first.
 -- Assumes nothing.
-use mathlib.Core.Path.{_≡_, refl, sym, ap, _∙_, subst}
+use mathlib.Core.Path.{_≡_, sym, ap, _∙_}
 use mathlib.Core.List.{List, [], _∷_, _++_, append-assoc, append-nil}
 use mathlib.Core.Bool.{Bool, true, false}
-use Prim.Native.Nat.{ℕ, zero, suc, _+_, _-_, _≤_, _<_, _*_, _%_, min}
+use Prim.Native.Nat.{ℕ, suc, _+_, _-_, _≤_, _<_, _%_, min}
 use native.Mathlib.Nat.{zero-add, mod-eq-of-lt, mod-self}
 use native.Mathlib.Numerals.{add-one}
 use native.Mathlib.Decide.{decLt}
 use native.Mathlib.Omega.{arith}
 use lib.ListN.{length, getD, set, take, drop, length-append, length-take, length-drop, length-set, take-append-drop, drop-of-length-le}
-use lib.Seq.{take-all, take-suc-set, drop-cons, drop-set-lt, drop-append-le, drop-append-add, take-append-le, drop-drop, length-take-le, take-take}
+use lib.Seq.{take-all, take-suc-set, drop-cons, drop-set-lt, drop-append-le, drop-drop, take-take}
 use lib.Dec.{eqb}
 use Rattle.laws.specs.Lists.{one, occ}
 

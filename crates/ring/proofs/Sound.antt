@@ -1,13 +1,13 @@
 -- The test of a channel says what `Sound` says, a push keeps a channel sound, and a fresh channel is sound. Assumes nothing.
-use mathlib.Core.Path.{_≡_, refl, sym, _∙_}
-use mathlib.Core.Bool.{Bool, true, false, cond, _&&_}
-use Prim.Native.Nat.{ℕ, zero, suc, _≤_, _<_}
+use mathlib.Core.Path.{_≡_, refl}
+use mathlib.Core.Bool.{Bool, true, cond, _&&_}
+use Prim.Native.Nat.{ℕ, _≤_, _<_}
 use native.Mathlib.Omega.{arith}
 use lib.Dec.{eqb, ltb, leb}
 use lib.ListN.{length, getD, replicate, length-replicate, getD-replicate}
-use borrow.Author.Tests.{ltb-true, ltb-false, leb-true, eqb-true, lt-ltb, le-leb, eq-eqb}
+use borrow.Author.Tests.{ltb-true, leb-true, eqb-true, lt-ltb, le-leb, eq-eqb}
 use Rattle.laws.specs.Lists.{occ}
-use Rattle.laws.proofs.Tests.{by-test, and-l, and-r, and-true, all-at, all-true}
+use Rattle.laws.proofs.Tests.{by-test, and-l, and-r, all-at, all-true}
 use Rattle.model.specs.Ring.{ChannelFloor, entries, pushIn}
 use Rattle.model.specs.Bank.{freshChannel}
 use Rattle.model.specs.Stores.{soundFields, soundRing, soundCounts, soundChannel}

@@ -52,7 +52,7 @@ channel-slow : (b : FloorBank) (h : Hop) (k : ℕ) → k < b .n → channel (slo
 unfolding slowStep chansAfter
 channel-slow b h k l = getD-tab (b .n) (channelAfter (b .chans) (seedsAfter b (h .db)) (h .db)) k freshChannel l
 
-seeds-slow : (b : FloorBank) (db : List Float) → Good b → (i : ℕ) → i < blocks (b .n) → getD (seedsAfter b db) i 0 ≤ 25
+pub seeds-slow : (b : FloorBank) (db : List Float) → Good b → (i : ℕ) → i < blocks (b .n) → getD (seedsAfter b db) i 0 ≤ 25
 unfolding seedsAfter
 seeds-slow b db g i l =
     rw (getD-tab (blocks (b .n)) (λ i. getD (b .seeds) i 0 + one (takesSeed (getD (b .seeds) i 0) (median (block i db)))) i 0 l)

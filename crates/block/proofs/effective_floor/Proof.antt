@@ -1,3 +1,4 @@
+-- `block::effective_floor` meets its contract: the calls' contracts, put together. Assumes nothing.
 use Rattle.model.specs.Bank.{effectiveFloor}
 use borrow.Author.Needs.{needs}
 use Rattle.block.proofs.effective_floor.Statement.{statement}

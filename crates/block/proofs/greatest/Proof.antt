@@ -1,3 +1,4 @@
+-- `block::greatest` meets its contract: each way out is what `fmax` picks where the tests are as the way found them. Assumes nothing.
 use Rattle.laws.proofs.Floats.{ne-self}
 use Rattle.block.proofs.greatest.Statement.{statement}
 use Rattle.block.proofs.greatest.Tie as tie

@@ -1,3 +1,4 @@
+-- `block::least` meets its contract: each way out is what `fmin` picks where the tests are as the way found them. Assumes nothing.
 use Rattle.laws.proofs.Floats.{ne-self}
 use Rattle.block.proofs.least.Statement.{statement}
 use Rattle.block.proofs.least.Tie as tie

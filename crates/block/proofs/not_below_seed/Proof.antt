@@ -1,3 +1,4 @@
+-- `block::not_below_seed` meets its contract: each way out is what `notBelow` picks. Assumes nothing.
 use borrow.Author.Tests.{not-true, not-false, lt-ltb}
 use native.Mathlib.Omega.{arith}
 use borrow.Author.Needs.{needs}

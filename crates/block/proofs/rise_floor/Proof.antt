@@ -1,3 +1,4 @@
+-- `block::rise_floor` meets its contract: the calls' contracts, put together. Assumes nothing.
 use Rattle.model.specs.Bank.{riseFloor}
 use borrow.Author.Needs.{needs}
 use Rattle.block.proofs.rise_floor.Statement.{statement}

@@ -1,5 +1,5 @@
 -- The three ways out are the three cases of the floor held to 0..279. Assumes nothing.
-use mathlib.Core.Path.{_≡_, refl, sym, _∙_}
+use mathlib.Core.Path.{refl, sym, _∙_}
 use native.Mathlib.Omega.{arith}
 use lib.Dec.{lit≤}
 use lib.Ieee.{Float, div, add, binary64, ofBits}

@@ -1,8 +1,5 @@
--- Assumes nothing.
-use mathlib.Core.Path.{_≡_, sym, ap, _∙_}
-use native.Mathlib.Omega.{arith}
-use lib.ListN.{getD}
-use Rattle.ring.proofs.Stored.{evicted}
+-- What the two stores leave is the channel without its oldest. Assumes nothing.
+use Rattle.ring.proofs.Entered.{evicted}
 use borrow.Author.Needs.{needs}
 use Rattle.ring.proofs.evict.Statement.{statement}
 use Rattle.ring.proofs.evict.Tie as tie

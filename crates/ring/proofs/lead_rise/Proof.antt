@@ -1,5 +1,4 @@
 -- Each way out is the number of the test as the way found it. Assumes nothing.
-use mathlib.Core.Path.{refl}
 use borrow.Author.Tests.{eq-eqb, ne-eqb, not-true, not-false}
 use native.Mathlib.Omega.{arith}
 use Rattle.ring.proofs.lead_rise.Statement.{statement}

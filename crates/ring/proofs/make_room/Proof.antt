@@ -1,10 +1,8 @@
--- Assumes nothing.
-use mathlib.Core.Path.{_≡_, sym, ap, _∙_}
-use mathlib.Core.Bool.{Bool, true, false}
+-- The two ways out are the two cases of `roomed`. Assumes nothing.
 use native.Mathlib.Omega.{arith}
 use lib.ListN.{getD}
 use borrow.Author.Tests.{eq-eqb, ne-eqb}
-use Rattle.ring.proofs.Stored.{grown}
+use Rattle.ring.proofs.Entered.{grown}
 use borrow.Author.Needs.{needs}
 use Rattle.ring.proofs.make_room.Statement.{statement}
 use Rattle.ring.proofs.make_room.Tie as tie

@@ -1,4 +1,4 @@
--- Assumes nothing.
+-- The next place is one of the ring, so a bin stands there. Assumes nothing.
 use mathlib.Core.Path.{_≡_, sym, ap, _∙_}
 use Prim.Native.Nat.{ℕ, _<_}
 use native.Mathlib.Omega.{arith}

@@ -1,39 +1,28 @@
--- Assumes nothing.
-use mathlib.Core.Path.{_≡_, sym, subst, ap, _∙_}
-use native.Mathlib.Omega.{arith}
+-- Room is made, then the bin enters. Assumes nothing.
+use mathlib.Core.Path.{sym, subst, _∙_}
 use lib.Dec.{eqb}
 use lib.ListN.{getD}
 use Rattle.ring.specs.Push.{Roomy}
-use Rattle.ring.proofs.Stored.{roomy, pushed}
+use Rattle.ring.proofs.Entered.{roomy, pushed}
 use borrow.Author.Needs.{needs}
 use Rattle.ring.proofs.push.Statement.{statement}
 use Rattle.ring.proofs.push.Tie as tie
-use Rattle.ring.proofs.push.Reads as reads
-use Rattle.ring.proofs.push.Lts as lts
-use Rattle.ring.proofs.enter.Reads as enter-reads
-use Rattle.ring.proofs.lead_rise.Reads as lead-rise-reads
-use Rattle.ring.proofs.make_room.Reads as make-room-reads
 
--- src/lib.rt:135:5
 make-room-requires : tie.Need-make-room-requires
 make-room-requires c κs = search needs
 
--- src/lib.rt:136:22
 lead-rise-requires : tie.Need-lead-rise-requires
 lead-rise-requires c κs = search needs
 
--- src/lib.rt:136:5
 enter-requires : tie.Need-enter-requires
 enter-requires c κs =
     let m = c .before .before .before .before in
     let s = m .before .before .before in
     (subst Roomy (sym (m .make-room .ensures)) (roomy (s .args .chan .now) (s .pre .0 .0) (eqb (getD (s .args .chan .now) 531 0) 250) (s .pre .0 .1)), (s .pre .1, c .lead-rise .ensures .1))
 
--- src/lib.rt:130:1
 same-length : tie.Need-same-length
 same-length c = search needs
 
--- src/lib.rt:130:1
 returns : tie.Need-returns
 returns c =
     let e = c .before .before in

@@ -1,3 +1,4 @@
+-- `block::median::block_median` meets its contract: the part that is lent is the block. Assumes nothing.
 use mathlib.Core.Path.{ap, _∙_}
 use Prim.Native.Nat.{ℕ, _*_}
 use native.Mathlib.Omega.{arith}

@@ -1,3 +1,4 @@
+-- `block::median::count_not_above` meets its contract: n is the count in the first i entries. Assumes nothing.
 use mathlib.Core.Path.{_≡_}
 use Prim.Native.Nat.{_≤_, _-_}
 use native.Mathlib.Omega.{arith}

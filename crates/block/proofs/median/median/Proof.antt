@@ -1,3 +1,4 @@
+-- `block::median::median` meets its contract: one rank or two, by whether the length is odd. Assumes nothing.
 use mathlib.Core.Path.{ap₂}
 use Prim.Native.Nat.{_%_}
 use lib.ListN.{length}

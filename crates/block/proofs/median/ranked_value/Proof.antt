@@ -1,3 +1,4 @@
+-- `block::median::ranked_value` meets its contract: none of the first i stands at the rank, so what is left decides. Assumes nothing.
 use mathlib.Core.Path.{sym, _∙_}
 use Prim.Native.Nat.{_-_}
 use native.Mathlib.Omega.{arith}

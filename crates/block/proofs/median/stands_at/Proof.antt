@@ -1,3 +1,4 @@
+-- `block::median::stands_at` meets its contract: the two counts of `standsAt`, the second only where the first passes. Assumes nothing.
 use mathlib.Core.Path.{sym}
 use native.Mathlib.Omega.{arith}
 use lib.Ieee.{Float, lt}

@@ -1,3 +1,4 @@
+-- `block::powers::power_linear` meets its contract: widening changes nothing. Assumes nothing.
 use mathlib.Core.Path.{ap}
 use lib.Ieee.{Float, add, binary64}
 use Rattle.model.specs.Numbers.{epsilon}

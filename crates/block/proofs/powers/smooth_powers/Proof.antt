@@ -1,3 +1,4 @@
+-- `block::powers::smooth_powers` meets its contract: the first k entries are written, and entry k is still the old one. Assumes nothing.
 use mathlib.Core.Path.{ap, ap₂, _∙_}
 use mathlib.Core.List.{List}
 use Prim.Native.Nat.{ℕ, _-_}

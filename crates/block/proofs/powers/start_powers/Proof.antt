@@ -1,3 +1,4 @@
+-- `block::powers::start_powers` meets its contract: the first i entries are written. Assumes nothing.
 use mathlib.Core.Path.{ap, _∙_}
 use mathlib.Core.List.{List}
 use Prim.Native.Nat.{ℕ, _-_}
@@ -15,10 +16,10 @@ abbrev entry : List Float → ℕ → Float
 entry power k = powerLinear (getD power k f0)
 
 abbrev Inv-loop : tie.InvT-loop
-Inv-loop smooth₀ power k₀ smooth k = Filled smooth₀ (entry power) k smooth
+Inv-loop smooth₀ power i₀ smooth i = Filled smooth₀ (entry power) i smooth
 
 abbrev μ-loop : tie.MeasureT-loop
-μ-loop smooth₀ power k₀ smooth k = length smooth₀ - k
+μ-loop smooth₀ power i₀ smooth i = length smooth₀ - i
 
 loop-holds : tie.Need-loop-holds Inv-loop μ-loop
 loop-holds c = begins _ _
@@ -38,8 +39,8 @@ mul-smooth c = search needs
 slice-write-smooth : tie.Need-slice-write-smooth Inv-loop μ-loop
 slice-write-smooth c = search needs
 
-add-k : tie.Need-add-k Inv-loop μ-loop
-add-k c = search needs
+add-i : tie.Need-add-i Inv-loop μ-loop
+add-i c = search needs
 
 loop-less : tie.Need-loop-less Inv-loop μ-loop
 loop-less c = search needs
@@ -47,8 +48,8 @@ loop-less c = search needs
 loop-again : tie.Need-loop-again Inv-loop μ-loop
 loop-again c = let l = c .before .before .before in
     let s = l .before .before .before in
-    turns (s .args .smooth .now) (entry (s .args .power .now)) (l .loop .k) (l .loop .smooth) (c .power-linear .result) (l .loop .inv) (omega arith)
-    (c .power-linear .ensures ∙ ap powerLinear (getD-any (s .args .power .now) (l .loop .k) nan f0 (omega arith)))
+    turns (s .args .smooth .now) (entry (s .args .power .now)) (l .loop .i) (l .loop .smooth) (c .power-linear .result) (l .loop .inv) (omega arith)
+    (c .power-linear .ensures ∙ ap powerLinear (getD-any (s .args .power .now) (l .loop .i) nan f0 (omega arith)))
 
 same-length : tie.Need-same-length Inv-loop μ-loop
 same-length c = search needs
@@ -56,7 +57,7 @@ same-length c = search needs
 returns : tie.Need-returns Inv-loop μ-loop
 returns c = let l = c .before in
     let s = l .before .before .before in
-    done (s .args .smooth .now) (entry (s .args .power .now)) (l .loop .k) (l .loop .smooth) (l .loop .inv) (omega arith)
+    done (s .args .smooth .now) (entry (s .args .power .now)) (l .loop .i) (l .loop .smooth) (l .loop .inv) (omega arith)
 
 pub start-powers-spec : {M : Type 1} → statement M
 start-powers-spec =
@@ -70,7 +71,7 @@ start-powers-spec =
     power-linear-requires
     mul-smooth
     slice-write-smooth
-    add-k
+    add-i
     loop-less
     loop-again
     same-length

@@ -1,3 +1,4 @@
+-- `block::seeds::pushes_after` meets its contract: one more where the median is taken. Assumes nothing.
 use native.Mathlib.Omega.{arith}
 use mathlib.Core.Path.{sym}
 use borrow.Author.Needs.{needs}

@@ -1,3 +1,4 @@
+-- `block::seeds::seed_blocks` meets its contract: the first i entries of both lists are written, and entry i of both is still the old one. Assumes nothing.
 use Rattle.laws.specs.Lists.{tab, one}
 use Rattle.model.specs.Bank.{takesSeed, sumAfter}
 use mathlib.Core.Path.{ap, _∙_}

@@ -1,3 +1,4 @@
+-- `block::seeds::sum_after` meets its contract: the median added where it is taken. Assumes nothing.
 use mathlib.Core.Path.{sym}
 use borrow.Author.Needs.{needs}
 use Rattle.block.proofs.seeds.sum_after.Statement.{statement}

@@ -1,3 +1,4 @@
+-- `block::seeds::takes_seed` meets its contract: the two tests of `takesSeed`, in order. Assumes nothing.
 use borrow.Author.Tests.{lt-ltb, le-ltb}
 use Rattle.block.proofs.seeds.takes_seed.Statement.{statement}
 use Rattle.block.proofs.seeds.takes_seed.Tie as tie
