@@ -11,7 +11,7 @@ use lib.Ieee.{Float, nan}
 use Rattle.laws.specs.Lists.{part, splice, tab, joined, occ}
 use Rattle.laws.proofs.Lists.{width, row, length-part, length-splice, getD-part, getD-past, getD-before, part-past, part-before}
 use Rattle.laws.proofs.Tabs.{length-tab, getD-tab, tab-same, tab-ext, tab-getD, length-joined, map-tab, parts-turn}
-use Rattle.block.proofs.Fills.{getD-any}
+use Rattle.laws.proofs.Defaults.{getD-any}
 use Rattle.block.specs.Seeds.{Seedable, Seeded, pushesAt, sumAt}
 use Rattle.model.specs.Numbers.{f0, powerLinear, smoothed}
 use Rattle.model.specs.Ring.{ChannelFloor, binOf, pushIn, rawFloor, usableFloor, since, entries}
