@@ -24,6 +24,11 @@ run-within start size (suc c) j meets h =
     (λ (l : j < c). omega (arith, meets c (omega arith), run-within start size c j (λ i k. meets i (omega arith)) l))
     (eq-or-lt-of-le (le-of-suc-le-suc h))
 
+-- part k begins before the end of c parts, or there
+pub run-upto : (start size : ℕ → ℕ) (c k : ℕ) → Meets start size c → k ≤ c → start k ≤ start c
+run-upto start size c k meets h =
+    ⊎-elim (λ (e : k ≡ c). rw e (omega arith)) (λ (l : k < c). omega (arith, run-within start size c k meets l)) (eq-or-lt-of-le h)
+
 module _ {A : Type 0} where
   -- a part that lies in the first of two
   pub part-in-first : (p q : List A) (a w : ℕ) → a + w ≤ length p → part a w (p ++ q) ≡ part a w p
