@@ -1,0 +1,2 @@
+pub mod Quartiles
+pub mod Floors
