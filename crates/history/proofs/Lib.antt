@@ -1,2 +1,4 @@
+pub mod Given
 pub mod Quartiles
 pub mod Floors
+pub mod Windows
