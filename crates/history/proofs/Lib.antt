@@ -2,3 +2,4 @@ pub mod Given
 pub mod Quartiles
 pub mod Floors
 pub mod Windows
+pub mod Rises
