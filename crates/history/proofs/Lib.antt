@@ -3,3 +3,4 @@ pub mod Quartiles
 pub mod Floors
 pub mod Windows
 pub mod Rises
+pub mod Calls
