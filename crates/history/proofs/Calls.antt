@@ -9,18 +9,18 @@ use lib.ListN.{length, getD}
 use lib.Dec.{eqb}
 use lib.Ieee.{Float}
 use Rattle.laws.specs.Tests.{differ, first}
-use Rattle.model.specs.Bank.{FloorBank, Hop, freshBank, bankStep}
+use Rattle.model.specs.Bank.{FloorBank, Hop, bankStep}
 use Rattle.model.specs.Stores.{bankU, bankF, bankOf}
 use Rattle.model.specs.Refusals.{bankRefusal, garbled, updateRefusal}
 use Rattle.model.specs.Calls.{leaves, bankUpdate}
-use Rattle.model.specs.Gate.{Gate, freshGate, gateStep}
+use Rattle.model.specs.Gate.{Gate, gateStep, riseBytes}
 use Rattle.model.specs.GateStores.{gateU, gateF, gateOf}
-use Rattle.model.specs.GateCalls.{GateHop, gateRefusal, orElse, pairRefusal, gateUpdateRefusal, holdRefusal, gateLeaves, gateUpdate, gateHold}
+use Rattle.model.specs.GateCalls.{GateHop, gateRefusal, orElse, pairRefusal, gateUpdateRefusal, holdRefusal, gateLeaves, marksOf, gateUpdate, gateHold}
 use Rattle.stores.specs.Good.{Good}
 use Rattle.stores.proofs.Goods.{bank-back, passes}
 use Rattle.stores.proofs.Fresh.{good-step}
 use Rattle.gate_store.specs.GoodGate.{GoodGate}
-use Rattle.history.specs.Demand3.{Call, Arguments, bank, gate, hold, Stores, step, answer, left, arguments, leftBy, answers, bankHop, gateHop, bankHops, gateHops, bankIn}
+use Rattle.history.specs.Demand3.{Call, Arguments, bank, gate, hold, Stores, step, answer, left, risesOf, arguments, leftBy, answers, bankHop, gateHop, bankHops, gateHops, bankIn}
 use Rattle.history.proofs.Floors.{runBank, n-run, phase-run}
 use Rattle.history.proofs.Rises.{runGate, make-run}
 use Rattle.history.proofs.Given.{gate-back, gate-passes, good-gate-step}
@@ -173,6 +173,21 @@ answer-is s v (gate h rise drop) =
     gate-answer (gateUpdateRefusal (s .bu) (s .bf) (s .gu) (s .gf) (length (h .db)) (length (h .power)) (length rise) (length drop)) _ (s .gu) (s .gf)
     ∙ rw (v .bank-passes, v .gate-passes)
 answer-is s v (hold rise drop) = rw (v .bank-passes, v .gate-passes)
+
+-- ---- the rises that an accepted call writes
+
+unfoldable pub judged : Stores → Arguments → List ℕ
+judged s (bank h) = []
+judged s (gate h rise drop) = riseBytes (gateStep (gateIn s) (h .db) (h .power)) (bankIn s)
+judged s (hold rise drop) = riseBytes (gateIn s) (bankIn s)
+
+pub rises-are : (s : Stores) (c : Call) → answer s c ≡ 0 → risesOf s c ≡ judged s (arguments c)
+unfolding risesOf judged step gateUpdate gateHold
+rises-are s (bank h) e = refl
+rises-are s (gate h rise drop) e =
+    ap (λ (r : ℕ). marksOf r (gateStep (gateIn s) (h .db) (h .power)) (bankIn s) rise drop .0)
+    (sym (gate-answer (gateUpdateRefusal (s .bu) (s .bf) (s .gu) (s .gf) (length (h .db)) (length (h .power)) (length rise) (length drop)) _ (s .gu) (s .gf)) ∙ e)
+rises-are s (hold rise drop) e = ap (λ (r : ℕ). marksOf r (gateIn s) (bankIn s) rise drop .0) e
 
 -- ---- two sets
 

@@ -4,3 +4,4 @@ pub mod Floors
 pub mod Windows
 pub mod Rises
 pub mod Calls
+pub mod Demand3
