@@ -162,7 +162,7 @@ leaves-answer : (r : ℕ) (b : FloorBank) (u : List ℕ) (f : List Float) → le
 leaves-answer zero b u f = refl
 leaves-answer (suc r) b u f = refl
 
-gate-answer : (r : ℕ) (g : Gate) (u : List ℕ) (f : List Float) → gateLeaves r g u f .0 ≡ r
+pub gate-answer : (r : ℕ) (g : Gate) (u : List ℕ) (f : List Float) → gateLeaves r g u f .0 ≡ r
 gate-answer zero g u f = refl
 gate-answer (suc r) g u f = refl
 

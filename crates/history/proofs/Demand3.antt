@@ -11,63 +11,37 @@ use Rattle.model.specs.Numbers.{f0}
 use Rattle.model.specs.Bank.{FloorBank, Hop, freshBank}
 use Rattle.model.specs.Readings.{effectiveAt}
 use Rattle.model.specs.Windows.{PowerLooks, stepLook}
-use Rattle.model.specs.Gate.{Gate, Settings, among, freshGate, sampleOf, gateStep}
-use Rattle.model.specs.GateCalls.{GateHop}
-use Rattle.stores.specs.Good.{Good}
-use Rattle.stores.proofs.Goods.{bank-back, passes}
-use Rattle.stores.proofs.Fresh.{good-fresh}
-use Rattle.gate_store.specs.GoodGate.{GoodGate}
-use Rattle.history.specs.Demand3.{Call, Arguments, bank, gate, hold, Stores, arguments, answer, leftBy, bankHops, gateHops, bankUpdates, gateUpdates, risesOf, firstSlowLoud, Valid, fresh, bankIn, SameFloors, Enough, Same, Demand3}
+use Rattle.model.specs.Gate.{Gate, among, freshGate, sampleOf, gateStep}
+use Rattle.model.specs.GateCalls.{GateHop, absent, settingsOf}
+use Rattle.history.specs.Demand3.{Call, Arguments, bank, gate, hold, Stores, arguments, answer, leftBy, bankHops, gateHops, bankUpdates, gateUpdates, risesOf, bankIn, Making, made, Made, SameFloors, Enough, Same, Demand3}
 use Rattle.history.proofs.Floors.{runBank, n-run, phase-run, Alike, alike-start, settles, settled-effective}
 use Rattle.history.proofs.Rises.{runGate, SameMake, make-run, started-run, looks-forget, rises-same}
 use Rattle.history.proofs.Calls.{gateIn, Sound, sound-run, bank-run, gate-run, Twins, same-answer, SameRun, same-run, judged, rises-are}
-use Rattle.history.proofs.Given.{gate-back, gate-passes, good-fresh-gate}
-
--- ---- a fresh set
-
-fresh-bank : (n : ℕ) (g : Settings) → Valid n g → bankIn (fresh n g) ≡ freshBank n
-unfolding fresh
-fresh-bank n g v = bank-back (freshBank n) (good-fresh n (v .low) (v .high))
-
-good-gate : (n : ℕ) (g : Settings) → Valid n g → GoodGate (freshGate g)
-good-gate n g v = good-fresh-gate g (v .gate-low) (v .gate-high) (v .on) (v .off) (v .early) (v .lengths)
-
-fresh-gate : (n : ℕ) (g : Settings) → Valid n g → gateIn (fresh n g) ≡ freshGate g
-unfolding fresh
-fresh-gate n g v = gate-back (freshGate g) (good-gate n g v)
-
-pub sound-fresh : (n : ℕ) (g : Settings) → Valid n g → Sound (fresh n g)
-sound-fresh n g v =
-    record {
-      bank-passes = (unfold fresh in passes (freshBank n) (good-fresh n (v .low) (v .high)));
-      bank-good = subst Good (sym (fresh-bank n g v)) (good-fresh n (v .low) (v .high));
-      gate-passes = (unfold fresh in gate-passes (freshGate g) (good-gate n g v));
-      gate-good = subst GoodGate (sym (fresh-gate n g v)) (good-gate n g v);
-    }
+use Rattle.history.proofs.Made.{settings, stored-absent, lengths-good, bank-made, gate-made, sound-made}
 
 -- ---- a set that has heard a list
 
-module _ (n : ℕ) (g : Settings) (v : Valid n g) where
-  bank-heard : (cs : List Call) → bankIn (leftBy (fresh n g) cs) ≡ runBank (freshBank n) (bankHops (fresh n g) cs)
-  bank-heard cs = bank-run cs (fresh n g) (sound-fresh n g v) ∙ ap (λ (b : FloorBank). runBank b (bankHops (fresh n g) cs)) (fresh-bank n g v)
+module _ (k : Making) (p : Stores) (d : Made k p) where
+  bank-heard : (cs : List Call) → bankIn (leftBy (made k p) cs) ≡ runBank (freshBank (k .n)) (bankHops (made k p) cs)
+  bank-heard cs = bank-run cs (made k p) (sound-made k p d) ∙ ap (λ (b : FloorBank). runBank b (bankHops (made k p) cs)) (bank-made k p d)
 
-  gate-heard : (cs : List Call) → gateIn (leftBy (fresh n g) cs) ≡ runGate (freshGate g) (gateHops (fresh n g) cs)
-  gate-heard cs = gate-run cs (fresh n g) (sound-fresh n g v) ∙ ap (λ (x : Gate). runGate x (gateHops (fresh n g) cs)) (fresh-gate n g v)
+  gate-heard : (cs : List Call) → gateIn (leftBy (made k p) cs) ≡ runGate (freshGate (settings k)) (gateHops (made k p) cs)
+  gate-heard cs = gate-run cs (made k p) (sound-made k p d) ∙ ap (λ (x : Gate). runGate x (gateHops (made k p) cs)) (gate-made k p d)
 
-  n-heard : (cs : List Call) → bankIn (leftBy (fresh n g) cs) .n ≡ n
-  n-heard cs = ap (λ (b : FloorBank). b .n) (bank-heard cs) ∙ n-run (bankHops (fresh n g) cs) (freshBank n) ∙ (unfold freshBank in refl)
+  n-heard : (cs : List Call) → bankIn (leftBy (made k p) cs) .n ≡ k .n
+  n-heard cs = ap (λ (b : FloorBank). b .n) (bank-heard cs) ∙ n-run (bankHops (made k p) cs) (freshBank (k .n)) ∙ (unfold freshBank in refl)
 
-  phase-heard : (cs : List Call) → bankIn (leftBy (fresh n g) cs) .phase ≡ bankUpdates (fresh n g) cs % 15
+  phase-heard : (cs : List Call) → bankIn (leftBy (made k p) cs) .phase ≡ bankUpdates (made k p) cs % 15
   phase-heard cs =
       ap (λ (b : FloorBank). b .phase) (bank-heard cs)
-      ∙ phase-run (bankHops (fresh n g) cs) (freshBank n) 0 (unfold freshBank in refl)
-      ∙ ap (λ (i : ℕ). i % 15) (zero-add (bankUpdates (fresh n g) cs))
+      ∙ phase-run (bankHops (made k p) cs) (freshBank (k .n)) 0 (unfold freshBank in refl)
+      ∙ ap (λ (i : ℕ). i % 15) (zero-add (bankUpdates (made k p) cs))
 
-  make-heard : (cs : List Call) → SameMake (gateIn (leftBy (fresh n g) cs)) (freshGate g)
-  make-heard cs = subst (λ (x : Gate). SameMake x (freshGate g)) (sym (gate-heard cs)) (make-run (gateHops (fresh n g) cs) (freshGate g))
+  make-heard : (cs : List Call) → SameMake (gateIn (leftBy (made k p) cs)) (freshGate (settings k))
+  make-heard cs = subst (λ (x : Gate). SameMake x (freshGate (settings k))) (sym (gate-heard cs)) (make-run (gateHops (made k p) cs) (freshGate (settings k)))
 
-  heard : (cs : List Call) → Sound (leftBy (fresh n g) cs)
-  heard cs = sound-run cs (fresh n g) (sound-fresh n g v)
+  heard : (cs : List Call) → Sound (leftBy (made k p) cs)
+  heard cs = sound-run cs (made k p) (sound-made k p d)
 
 make-join : (a b c : Gate) → SameMake a c → SameMake b c → SameMake a b
 make-join a b c x y = record { n = x .n ∙ sym (y .n); on = x .on ∙ sym (y .on); early = x .early ∙ sym (y .early) }
@@ -96,24 +70,25 @@ next-rises s t w r c d e z =
 
 -- ---- demand 3
 
-module _ (n : ℕ) (g : Settings) (v : Valid n g) (xs ys : List Call) (eb : bankUpdates (fresh n g) xs % 15 ≡ bankUpdates (fresh n g) ys % 15)
-    (eg : (m : ℕ) → among m (g .lengths) ≡ true → gateUpdates (fresh n g) xs % (2 * m) ≡ gateUpdates (fresh n g) ys % (2 * m))
+module _ (k : Making) (p q : Stores) (mp : Made k p) (mq : Made k q) (xs ys : List Call)
+    (eb : bankUpdates (made k p) xs % 15 ≡ bankUpdates (made k q) ys % 15)
+    (eg : (m : ℕ) → among m (k .lengths) ≡ true → gateUpdates (made k p) xs % (2 * m) ≡ gateUpdates (made k q) ys % (2 * m))
     (fs gs : List Call) (e : map arguments fs ≡ map arguments gs)
   where
     abbrev s : Stores
-    s = leftBy (fresh n g) xs
+    s = leftBy (made k p) xs
 
     abbrev t : Stores
-    t = leftBy (fresh n g) ys
+    t = leftBy (made k q) ys
 
     twins : Twins s t
     twins =
         record {
-          one = heard n g v xs;
-          other = heard n g v ys;
-          n = n-heard n g v xs ∙ sym (n-heard n g v ys);
-          phase = phase-heard n g v xs ∙ eb ∙ sym (phase-heard n g v ys);
-          gate-n = make-heard n g v xs .n ∙ sym (make-heard n g v ys .n);
+          one = heard k p mp xs;
+          other = heard k q mq ys;
+          n = n-heard k p mp xs ∙ sym (n-heard k q mq ys);
+          phase = phase-heard k p mp xs ∙ eb ∙ sym (phase-heard k q mq ys);
+          gate-n = make-heard k p mp xs .n ∙ sym (make-heard k q mq ys .n);
         }
 
     run : SameRun s t fs gs
@@ -126,61 +101,61 @@ module _ (n : ℕ) (g : Settings) (v : Valid n g) (xs ys : List Call) (eb : bank
     bank-t : bankIn (leftBy t gs) ≡ runBank (bankIn t) (bankHops s fs)
     bank-t = bank-run gs t (twins .other) ∙ ap (runBank (bankIn t)) (sym (run .same-bank))
 
-    settled : Enough n (bankUpdates (fresh n g) xs) s fs → (i : ℕ) × (250 ≤ i) × Alike i (bankIn (leftBy s fs)) (bankIn (leftBy t gs))
+    settled : Enough (k .n) (bankUpdates (made k p) xs) s fs → (i : ℕ) × (250 ≤ i) × Alike i (bankIn (leftBy s fs)) (bankIn (leftBy t gs))
     settled h =
-        let w = settles (bankHops s fs) (bankUpdates (fresh n g) xs) 0 (bankIn s) (bankIn t)
-        (alike-start (bankIn s) (bankIn t) (twins .one .bank-good) (twins .other .bank-good) (twins .n) (twins .phase)) (phase-heard n g v xs)
-        (λ z. rw (n-heard n g v xs) (h .slow-hop)) (omega (arith, h .bank-updates)) in
+        let w = settles (bankHops s fs) (bankUpdates (made k p) xs) 0 (bankIn s) (bankIn t)
+        (alike-start (bankIn s) (bankIn t) (twins .one .bank-good) (twins .other .bank-good) (twins .n) (twins .phase)) (phase-heard k p mp xs)
+        (λ z. rw (n-heard k p mp xs) (h .slow-hop)) (omega (arith, h .bank-updates)) in
         (w .0, w .1, subst₂ (λ (b d : FloorBank). Alike (w .0) b d) (sym bank-s) (sym bank-t) (w .2))
 
-    n-after : bankIn (leftBy s fs) .n ≡ n
-    n-after = ap (λ (b : FloorBank). b .n) bank-s ∙ n-run (bankHops s fs) (bankIn s) ∙ n-heard n g v xs
+    n-after : bankIn (leftBy s fs) .n ≡ k .n
+    n-after = ap (λ (b : FloorBank). b .n) bank-s ∙ n-run (bankHops s fs) (bankIn s) ∙ n-heard k p mp xs
 
-    floors : Enough n (bankUpdates (fresh n g) xs) s fs → SameFloors n (leftBy s fs) (leftBy t gs)
+    floors : Enough (k .n) (bankUpdates (made k p) xs) s fs → SameFloors (k .n) (leftBy s fs) (leftBy t gs)
     floors h =
         let w = settled h in
         let f = w .2 .both .floors (w .1) in
         record {
-          raw = λ k l. ap (λ (r : List Float). getD r k f0) (f .raw);
-          effective = λ k l. settled-effective (w .0) (w .1) (bankIn (leftBy s fs)) (bankIn (leftBy t gs)) (w .2) k (omega (arith, n-after));
-          rise = λ k l. ap (λ (r : List Float). getD r k f0) (f .rise);
+          raw = λ i l. ap (λ (r : List Float). getD r i f0) (f .raw);
+          effective = λ i l. settled-effective (w .0) (w .1) (bankIn (leftBy s fs)) (bankIn (leftBy t gs)) (w .2) i (omega (arith, n-after));
+          rise = λ i l. ap (λ (r : List Float). getD r i f0) (f .rise);
         }
 
     -- the gate
-    gate-s : gateIn (leftBy s fs) ≡ runGate (runGate (freshGate g) (gateHops (fresh n g) xs)) (gateHops s fs)
-    gate-s = gate-run fs s (twins .one) ∙ ap (λ (x : Gate). runGate x (gateHops s fs)) (gate-heard n g v xs)
+    gate-s : gateIn (leftBy s fs) ≡ runGate (runGate (freshGate (settings k)) (gateHops (made k p) xs)) (gateHops s fs)
+    gate-s = gate-run fs s (twins .one) ∙ ap (λ (x : Gate). runGate x (gateHops s fs)) (gate-heard k p mp xs)
 
-    gate-t : gateIn (leftBy t gs) ≡ runGate (runGate (freshGate g) (gateHops (fresh n g) ys)) (gateHops s fs)
-    gate-t = gate-run gs t (twins .other) ∙ ap₂ runGate (gate-heard n g v ys) (sym (run .same-gate))
+    gate-t : gateIn (leftBy t gs) ≡ runGate (runGate (freshGate (settings k)) (gateHops (made k q) ys)) (gateHops s fs)
+    gate-t = gate-run gs t (twins .other) ∙ ap₂ runGate (gate-heard k q mq ys) (sym (run .same-gate))
 
-    make-after : (hs : List GateHop) (x y : Gate) → x ≡ runGate y hs → SameMake y (freshGate g) → SameMake x (freshGate g)
-    make-after hs x y q m = subst (λ (z : Gate). SameMake z (freshGate g)) (sym q) (let r = make-run hs y in record { n = r .n ∙ m .n; on = r .on ∙ m .on; early = r .early ∙ m .early })
+    make-after : (hs : List GateHop) (x y : Gate) → x ≡ runGate y hs → SameMake y (freshGate (settings k)) → SameMake x (freshGate (settings k))
+    make-after hs x y q m = subst (λ (z : Gate). SameMake z (freshGate (settings k))) (sym q) (let r = make-run hs y in record { n = r .n ∙ m .n; on = r .on ∙ m .on; early = r .early ∙ m .early })
 
-    make-s : SameMake (gateIn (leftBy s fs)) (freshGate g)
-    make-s = make-after (gateHops s fs) (gateIn (leftBy s fs)) (gateIn s) (gate-run fs s (twins .one)) (make-heard n g v xs)
+    make-s : SameMake (gateIn (leftBy s fs)) (freshGate (settings k))
+    make-s = make-after (gateHops s fs) (gateIn (leftBy s fs)) (gateIn s) (gate-run fs s (twins .one)) (make-heard k p mp xs)
 
-    make-t : SameMake (gateIn (leftBy t gs)) (freshGate g)
-    make-t = make-after (gateHops t gs) (gateIn (leftBy t gs)) (gateIn t) (gate-run gs t (twins .other)) (make-heard n g v ys)
+    make-t : SameMake (gateIn (leftBy t gs)) (freshGate (settings k))
+    make-t = make-after (gateHops t gs) (gateIn (leftBy t gs)) (gateIn t) (gate-run gs t (twins .other)) (make-heard k q mq ys)
 
-    ready : Enough n (bankUpdates (fresh n g) xs) s fs → g .early ≡ 65535 → Ready (leftBy s fs) (leftBy t gs)
+    ready : Enough (k .n) (bankUpdates (made k p) xs) s fs → absent (k .early) ≡ true → Ready (leftBy s fs) (leftBy t gs)
     ready h a =
         let w = settled h in
         record {
-          make = make-join (gateIn (leftBy s fs)) (gateIn (leftBy t gs)) (freshGate g) make-s make-t;
-          early = make-s .early ∙ (unfold freshGate in a);
+          make = make-join (gateIn (leftBy s fs)) (gateIn (leftBy t gs)) (freshGate (settings k)) make-s make-t;
+          early = make-s .early ∙ (unfold freshGate settingsOf in stored-absent (k .early) a);
           looks =
               ap (λ (x : Gate). x .looks) gate-s
-              ∙ looks-forget g (gateHops (fresh n g) xs) (gateHops (fresh n g) ys) (gateHops s fs) (v .lengths) eg (h .gate-updates)
+              ∙ looks-forget (settings k) (gateHops (made k p) xs) (gateHops (made k q) ys) (gateHops s fs) (unfold settingsOf in lengths-good k p mp) (unfold settingsOf in eg) (h .gate-updates)
               ∙ sym (ap (λ (x : Gate). x .looks) gate-t);
           started =
               ap (λ (x : Gate). x .started) gate-s
-              ∙ started-run (gateHops s fs) (runGate (freshGate g) (gateHops (fresh n g) xs)) (omega (arith, h .gate-updates))
-              ∙ sym (started-run (gateHops s fs) (runGate (freshGate g) (gateHops (fresh n g) ys)) (omega (arith, h .gate-updates)))
+              ∙ started-run (gateHops s fs) (runGate (freshGate (settings k)) (gateHops (made k p) xs)) (omega (arith, h .gate-updates))
+              ∙ sym (started-run (gateHops s fs) (runGate (freshGate (settings k)) (gateHops (made k q) ys)) (omega (arith, h .gate-updates)))
               ∙ sym (ap (λ (x : Gate). x .started) gate-t);
           rise = w .2 .both .floors (w .1) .rise;
         }
 
-    whole : Same n g (bankUpdates (fresh n g) xs) s t fs gs
+    whole : Same k (bankUpdates (made k p) xs) s t fs gs
     whole =
         record {
           refusals = run .same-answers;

@@ -4,4 +4,5 @@ pub mod Floors
 pub mod Windows
 pub mod Rises
 pub mod Calls
+pub mod Made
 pub mod Demand3

@@ -3,20 +3,19 @@
 use mathlib.Core.Path.{_≡_}
 use mathlib.Core.Bool.{Bool, true, cond}
 use mathlib.Core.List.{List, [], _∷_, _++_, map}
-use mathlib.Core.Logic.{_⊎_}
 use Prim.Native.Nat.{ℕ, zero, suc, _*_, _%_, _≤_, _<_}
 use lib.Dec.{eqb}
 use lib.ListN.{length}
+use lib.IntN.{ℤ}
 use lib.Ieee.{Float, le}
 use Rattle.laws.specs.Tests.{allBelow}
 use Rattle.model.specs.Numbers.{histMin}
-use Rattle.model.specs.Bank.{FloorBank, Hop, blocks, block, median, freshBank}
+use Rattle.model.specs.Bank.{FloorBank, Hop, blocks, block, median}
 use Rattle.model.specs.Readings.{rawAt, effectiveAt, riseAt}
-use Rattle.model.specs.Stores.{bankU, bankF, bankOf}
-use Rattle.model.specs.Calls.{bankUpdate}
-use Rattle.model.specs.Gate.{Settings, among, freshGate}
-use Rattle.model.specs.GateStores.{gateU, gateF}
-use Rattle.model.specs.GateCalls.{GateHop, goodLengths, gateUpdate, gateHold}
+use Rattle.model.specs.Stores.{bankOf}
+use Rattle.model.specs.Calls.{bankNew, bankUpdate}
+use Rattle.model.specs.Gate.{among}
+use Rattle.model.specs.GateCalls.{GateHop, absent, gateNew, gateUpdate, gateHold}
 
 -- ---- calls
 
@@ -117,19 +116,29 @@ firstSlowLoud n a (h ∷ hs) = cond (eqb (a % 15) 0) (loud n (h .db)) (firstSlow
 
 -- ---- a fresh set
 
--- settings that making takes: n is the bank's, g the gate's, levels as the store has them
-pub record Valid (n : ℕ) (g : Settings) : Type 0 where
-  pub low : 1 ≤ n
-  pub high : n ≤ 512
-  pub gate-low : 1 ≤ g .n
-  pub gate-high : g .n ≤ 512
-  pub on : g .on ≤ 1600
-  pub off : g .off ≤ 1600
-  pub early : (g .early ≡ 65535) ⊎ (g .early ≤ 1600)
-  pub lengths : goodLengths (g .lengths) ≡ true
+-- "equal settings are the same n, window lengths, on, off and early", as making takes them; the bank's n and the gate's may differ
+pub record Making : Type 0 where
+  pub n : ℕ
+  pub gate-n : ℕ
+  pub on : ℤ
+  pub off : ℤ
+  pub early : ℤ
+  pub lengths : List ℕ
 
-unfoldable pub fresh : ℕ → Settings → Stores
-fresh n g = record { bu = bankU (freshBank n); bf = bankF (freshBank n); gu = gateU (freshGate g); gf = gateF (freshGate g) }
+-- what making answers and leaves, of lent stores that hold anything
+unfoldable pub newBank : Making → Stores → ℕ × List ℕ × List Float
+newBank k s = bankNew (s .bu) (s .bf) (k .n)
+
+unfoldable pub newGate : Making → Stores → ℕ × List ℕ × List Float
+newGate k s = gateNew (s .gu) (s .gf) (k .gate-n) (k .on) (k .off) (k .early) (k .lengths)
+
+abbrev pub made : Making → Stores → Stores
+made k s = record { bu = newBank k s .1; bf = newBank k s .2; gu = newGate k s .1; gf = newGate k s .2 }
+
+-- neither is refused
+pub record Made (k : Making) (s : Stores) : Type 0 where
+  pub bank : newBank k s .0 ≡ 0
+  pub gate : newGate k s .0 ≡ 0
 
 -- ---- the claim
 
@@ -152,27 +161,27 @@ pub record Enough (n a : ℕ) (s : Stores) (fs : List Call) : Type 0 where
   pub slow-hop : firstSlowLoud n a (bankHops s fs) ≡ true
 
 -- the same from here on, of a set that is in s and one that is in t
-pub record Same (n : ℕ) (g : Settings) (a : ℕ) (s t : Stores) (fs gs : List Call) : Type 0 where
+pub record Same (k : Making) (a : ℕ) (s t : Stores) (fs gs : List Call) : Type 0 where
   -- "the same of its calls are refused, with the same refusals"
   pub refusals : answers s fs ≡ answers t gs
   -- "that next call gets the same refusal"
   pub next-refusal : (c d : Call) → arguments c ≡ arguments d → answer (leftBy s fs) c ≡ answer (leftBy t gs) d
   -- "then after it every raw, effective and rise floor is equal for both"
-  pub floors : Enough n a s fs → SameFloors n (leftBy s fs) (leftBy t gs)
+  pub floors : Enough (k .n) a s fs → SameFloors (k .n) (leftBy s fs) (leftBy t gs)
   -- "where early rise is absent, the rises of the gate update or hold that comes next are equal too"
-  pub rises : Enough n a s fs → g .early ≡ 65535 → (c d : Call) → arguments c ≡ arguments d → answer (leftBy s fs) c ≡ 0
+  pub rises : Enough (k .n) a s fs → absent (k .early) ≡ true → (c d : Call) → arguments c ≡ arguments d → answer (leftBy s fs) c ≡ 0
       → risesOf (leftBy s fs) c ≡ risesOf (leftBy t gs) d
 
 abbrev pub Demand3 : Type 0
 Demand3 =
     -- "each from a fresh bank and gate of equal settings"
-    (n : ℕ) (g : Settings) → Valid n g
+    (k : Making) (p q : Stores) → Made k p → Made k q
     -- "take any two lists of bank updates, gate updates and holds"
     → (xs ys : List Call)
     -- "whose numbers of accepted bank updates are equal modulo 15"
-    → bankUpdates (fresh n g) xs % 15 ≡ bankUpdates (fresh n g) ys % 15
+    → bankUpdates (made k p) xs % 15 ≡ bankUpdates (made k q) ys % 15
     -- "and of accepted gate updates modulo twice every window length"
-    → ((m : ℕ) → among m (g .lengths) ≡ true → gateUpdates (fresh n g) xs % (2 * m) ≡ gateUpdates (fresh n g) ys % (2 * m))
-    -- "whatever further list of these calls follows both"
+    → ((m : ℕ) → among m (k .lengths) ≡ true → gateUpdates (made k p) xs % (2 * m) ≡ gateUpdates (made k q) ys % (2 * m))
+    -- "whatever further list of these calls follows both": with the same arguments
     → (fs gs : List Call) → map arguments fs ≡ map arguments gs
-    → Same n g (bankUpdates (fresh n g) xs) (leftBy (fresh n g) xs) (leftBy (fresh n g) ys) fs gs
+    → Same k (bankUpdates (made k p) xs) (leftBy (made k p) xs) (leftBy (made k q) ys) fs gs
