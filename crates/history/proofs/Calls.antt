@@ -21,19 +21,10 @@ use Rattle.stores.proofs.Goods.{bank-back, passes}
 use Rattle.stores.proofs.Fresh.{good-step}
 use Rattle.gate_store.specs.GoodGate.{GoodGate}
 use Rattle.history.specs.Demand3.{Call, Arguments, bank, gate, hold, Stores, step, answer, left, risesOf, arguments, leftBy, answers, bankHop, gateHop, bankHops, gateHops, bankIn}
+use Rattle.history.specs.Sets.{gateIn, Sound}
 use Rattle.history.proofs.Floors.{runBank, n-run, phase-run}
 use Rattle.history.proofs.Rises.{runGate, make-run}
 use Rattle.history.proofs.Given.{gate-back, gate-passes, good-gate-step}
-
-abbrev pub gateIn : Stores → Gate
-gateIn s = gateOf (s .gu) (s .gf)
-
--- neither store is refused, and both hold what is sound
-pub record Sound (s : Stores) : Type 0 where
-  pub bank-passes : bankRefusal (s .bu) (s .bf) ≡ 0
-  pub bank-good : Good (bankIn s)
-  pub gate-passes : gateRefusal (s .gu) (s .gf) ≡ 0
-  pub gate-good : GoodGate (gateIn s)
 
 good-run : (hs : List Hop) (b : FloorBank) → Good b → Good (runBank b hs)
 good-run [] b g = g
@@ -152,7 +143,7 @@ gate-run (c ∷ cs) s v =
 -- ---- what is refused
 
 -- with sound stores, by the bank's n and phase and the gate's n alone
-refuse : ℕ → ℕ → ℕ → Arguments → ℕ
+unfoldable pub refuse : ℕ → ℕ → ℕ → Arguments → ℕ
 refuse nb phase ng (bank h) = first (differ (length (h .db)) nb || differ (length (h .power)) nb) 5 (first (eqb phase 0 && garbled nb (h .db)) 6 0)
 refuse nb phase ng (gate h rise drop) =
     orElse (first (differ nb ng) 8 0) (first (differ (length (h .db)) ng || differ (length (h .power)) ng || differ rise ng || differ drop ng) 5 0)
@@ -166,7 +157,7 @@ pub gate-answer : (r : ℕ) (g : Gate) (u : List ℕ) (f : List Float) → gateL
 gate-answer zero g u f = refl
 gate-answer (suc r) g u f = refl
 
-answer-is : (s : Stores) → Sound s → (c : Call) → answer s c ≡ refuse (bankIn s .n) (bankIn s .phase) (gateIn s .n) (arguments c)
+pub answer-is : (s : Stores) → Sound s → (c : Call) → answer s c ≡ refuse (bankIn s .n) (bankIn s .phase) (gateIn s .n) (arguments c)
 unfolding step bankUpdate updateRefusal gateUpdate gateUpdateRefusal pairRefusal gateHold holdRefusal bankOf gateOf refuse
 answer-is s v (bank h) = leaves-answer (updateRefusal (s .bu) (s .bf) (h .db) (h .power)) _ (s .bu) (s .bf) ∙ rw (v .bank-passes)
 answer-is s v (gate h rise drop) =

@@ -14,9 +14,10 @@ use Rattle.model.specs.Windows.{PowerLooks, stepLook}
 use Rattle.model.specs.Gate.{Gate, among, freshGate, sampleOf, gateStep}
 use Rattle.model.specs.GateCalls.{GateHop, absent, settingsOf}
 use Rattle.history.specs.Demand3.{Call, Arguments, bank, gate, hold, Stores, arguments, answer, leftBy, bankHops, gateHops, bankUpdates, gateUpdates, risesOf, bankIn, Making, made, Made, SameFloors, Enough, Same, Demand3}
+use Rattle.history.specs.Sets.{gateIn, Sound}
 use Rattle.history.proofs.Floors.{runBank, n-run, phase-run, Alike, alike-start, settles, settled-effective}
 use Rattle.history.proofs.Rises.{runGate, SameMake, make-run, started-run, looks-forget, rises-same}
-use Rattle.history.proofs.Calls.{gateIn, Sound, sound-run, bank-run, gate-run, Twins, same-answer, SameRun, same-run, judged, rises-are}
+use Rattle.history.proofs.Calls.{sound-run, bank-run, gate-run, Twins, same-answer, SameRun, same-run, judged, rises-are}
 use Rattle.history.proofs.Made.{settings, stored-absent, lengths-good, bank-made, gate-made, sound-made}
 
 -- ---- a set that has heard a list

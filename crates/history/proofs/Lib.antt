@@ -6,3 +6,4 @@ pub mod Rises
 pub mod Calls
 pub mod Made
 pub mod Demand3
+pub mod Sets

@@ -24,7 +24,8 @@ use Rattle.stores.proofs.Fresh.{good-fresh}
 use Rattle.gate_store.specs.GoodGate.{GoodGate}
 use Rattle.reach.specs.Reach.{made-fresh}
 use Rattle.history.specs.Demand3.{Stores, bankIn, Making, newBank, newGate, made, Made}
-use Rattle.history.proofs.Calls.{gateIn, gate-answer, Sound}
+use Rattle.history.specs.Sets.{gateIn, Sound}
+use Rattle.history.proofs.Calls.{gate-answer}
 use Rattle.history.proofs.Given.{gate-back, gate-passes, good-fresh-gate}
 
 -- ---- the gate's settings
