@@ -3,28 +3,29 @@
 use mathlib.Core.Path.{_≡_, refl, sym, ap, ap₂, _∙_, subst}
 use mathlib.Core.List.{List, [], _∷_, _++_, map}
 use mathlib.Core.Bool.{_&&_, _||_}
-use Prim.Native.Nat.{ℕ, zero, suc, _+_, _%_, _<_}
+use Prim.Native.Nat.{ℕ, zero, suc, _+_, _%_}
 use native.Mathlib.Omega.{arith}
-use lib.ListN.{length, getD}
+use lib.ListN.{length}
 use lib.Dec.{eqb}
 use lib.Ieee.{Float}
 use Rattle.laws.specs.Tests.{differ, first}
 use Rattle.model.specs.Bank.{FloorBank, Hop, bankStep}
-use Rattle.model.specs.Stores.{bankU, bankF, bankOf}
+use Rattle.model.specs.Stores.{bankOf}
 use Rattle.model.specs.Refusals.{bankRefusal, garbled, updateRefusal}
 use Rattle.model.specs.Calls.{leaves, bankUpdate}
 use Rattle.model.specs.Gate.{Gate, gateStep, riseBytes}
-use Rattle.model.specs.GateStores.{gateU, gateF, gateOf}
+use Rattle.model.specs.GateStores.{gateOf}
 use Rattle.model.specs.GateCalls.{GateHop, gateRefusal, orElse, pairRefusal, gateUpdateRefusal, holdRefusal, gateLeaves, marksOf, gateUpdate, gateHold}
 use Rattle.stores.specs.Good.{Good}
 use Rattle.stores.proofs.Goods.{bank-back, passes}
 use Rattle.stores.proofs.Fresh.{good-step}
 use Rattle.gate_store.specs.GoodGate.{GoodGate}
+use Rattle.gate_store.proofs.Goods.{gate-back, gate-passes}
+use Rattle.gate_store.proofs.Fresh.{good-gate-step}
 use Rattle.history.specs.Demand3.{Call, Arguments, bank, gate, hold, Stores, step, answer, left, risesOf, arguments, leftBy, answers, bankHop, gateHop, bankHops, gateHops, bankIn}
 use Rattle.history.specs.Sets.{gateIn, Sound}
 use Rattle.history.proofs.Floors.{runBank, n-run, phase-run}
 use Rattle.history.proofs.Rises.{runGate, make-run}
-use Rattle.history.proofs.Given.{gate-back, gate-passes, good-gate-step}
 
 good-run : (hs : List Hop) (b : FloorBank) → Good b → Good (runBank b hs)
 good-run [] b g = g

@@ -2,14 +2,13 @@
 use mathlib.Core.Path.{_≡_, refl, sym, ap, ap₂, _∙_, subst, subst₂}
 use mathlib.Core.Bool.{true}
 use mathlib.Core.List.{List, map}
-use Prim.Native.Nat.{ℕ, _+_, _*_, _%_, _≤_, _<_}
+use Prim.Native.Nat.{ℕ, _*_, _%_, _≤_}
 use native.Mathlib.Nat.{zero-add}
 use native.Mathlib.Omega.{arith}
-use lib.ListN.{length, getD}
+use lib.ListN.{getD}
 use lib.Ieee.{Float}
 use Rattle.model.specs.Numbers.{f0}
-use Rattle.model.specs.Bank.{FloorBank, Hop, freshBank}
-use Rattle.model.specs.Readings.{effectiveAt}
+use Rattle.model.specs.Bank.{FloorBank, freshBank}
 use Rattle.model.specs.Windows.{PowerLooks, stepLook}
 use Rattle.model.specs.Gate.{Gate, among, freshGate, sampleOf, gateStep}
 use Rattle.model.specs.GateCalls.{GateHop, absent, settingsOf}

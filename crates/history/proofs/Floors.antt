@@ -1,8 +1,8 @@
 -- The bank's half of demand 3: two banks of the same n and phase, whatever they heard, have equal floors after the same 3,750 updates or more
 -- whose first slow hop is loud in every block. Uses no law of floats. Assumes nothing.
-use mathlib.Core.Path.{_≡_, refl, sym, ap, ap₂, _∙_, subst}
+use mathlib.Core.Path.{_≡_, refl, sym, ap, ap₂, _∙_}
 use mathlib.Core.List.{List, [], _∷_}
-use mathlib.Core.Bool.{Bool, true, false, cond}
+use mathlib.Core.Bool.{true}
 use Prim.Native.Nat.{ℕ, zero, suc, _+_, _-_, _*_, _/_, _%_, _≤_, _<_}
 use native.Mathlib.Omega.{arith}
 use lib.ListN.{length, getD}
@@ -14,12 +14,11 @@ use Rattle.laws.proofs.Tests.{by-test, all-at}
 use Rattle.laws.proofs.Tabs.{getD-tab, tab-same}
 use Rattle.model.specs.Numbers.{f0, f3, histMin, fmin, fmax}
 use Rattle.model.specs.Ring.{ChannelFloor, binOf, entries, without, quartileOf, quartile, rawFloor, usableFloor, since}
-use Rattle.model.specs.Bank.{FloorBank, Hop, blocks, block, median, freshChannel, channel, takesSeed, seedsAfter, sumsAfter, channelAfter, chansAfter, rawFloors, usableFloors, blockFloors, effectiveFloor, riseFloor, riseFloors, fastStep, slowStep, stepAt, bankStep}
-use Rattle.model.specs.Readings.{rawAt, effectiveAt, riseAt}
+use Rattle.model.specs.Bank.{FloorBank, Hop, blocks, block, median, freshChannel, channel, takesSeed, seedsAfter, channelAfter, chansAfter, rawFloors, usableFloors, blockFloors, effectiveFloor, riseFloor, riseFloors, fastStep, slowStep, stepAt, bankStep}
+use Rattle.model.specs.Readings.{effectiveAt}
 use Rattle.ring.proofs.Queue.{newest}
 use Rattle.ring.proofs.History.{W, Fading, fading-start, fading-in, near-in, near-start, lead-gone, filled-up, entries-equal, sound-good, good-sound}
 use Rattle.ring.proofs.Floats.{bin-below}
-use Rattle.quartile.proofs.Rank.{under}
 use Rattle.quartile.proofs.Channel.{under-top}
 use Rattle.stores.specs.Good.{Good}
 use Rattle.history.specs.Demand3.{loud, firstSlowLoud}

@@ -1,4 +1,3 @@
-pub mod Given
 pub mod Quartiles
 pub mod Floors
 pub mod Windows

@@ -1,32 +1,29 @@
 -- What making leaves where it is not refused: the stores of a fresh bank and a fresh gate, both sound. Assumes nothing.
-use mathlib.Core.Path.{_≡_, refl, sym, ap, _∙_, subst}
-use mathlib.Core.Bool.{Bool, true, false, not, _&&_, _||_}
-use mathlib.Core.List.{List}
+use mathlib.Core.Path.{_≡_, sym, ap, _∙_, subst}
+use mathlib.Core.Bool.{true, not, _&&_, _||_}
 use mathlib.Core.Logic.{_⊎_, inl, inr}
 use Prim.Native.Nat.{ℕ, _≤_}
 use native.Mathlib.Omega.{arith}
-use lib.Dec.{eqb}
 use lib.ListN.{length}
 use lib.IntN.{ℤ, pos, negsuc}
-use lib.Ieee.{Float}
 use borrow.Author.Tests.{not-false, leb-true, eqb-true}
-use Rattle.laws.specs.Tests.{within, differ}
+use Rattle.laws.specs.Tests.{within}
 use Rattle.laws.proofs.Tests.{by-test, passed, within-of, and-l, and-r, clash}
-use Rattle.model.specs.Bank.{FloorBank, freshBank}
+use Rattle.model.specs.Bank.{freshBank}
 use Rattle.model.specs.Stores.{bankU, bankF}
-use Rattle.model.specs.Refusals.{bankRefusal}
-use Rattle.model.specs.Gate.{Gate, Settings, distinct, freshGate}
+use Rattle.model.specs.Gate.{Settings, freshGate}
 use Rattle.model.specs.GateStores.{gateU, gateF}
-use Rattle.model.specs.GateCalls.{goodLengths, stored, goodLevel, absent, floatsFor, gateMakeRefusal, settingsOf, gateRefusal, gateLeaves, gateNew}
+use Rattle.model.specs.GateCalls.{goodLengths, stored, goodLevel, absent, gateMakeRefusal, settingsOf, gateLeaves, gateNew}
 use Rattle.stores.specs.Good.{Good}
 use Rattle.stores.proofs.Goods.{bank-back, passes}
 use Rattle.stores.proofs.Fresh.{good-fresh}
 use Rattle.gate_store.specs.GoodGate.{GoodGate}
+use Rattle.gate_store.proofs.Goods.{gate-back, gate-passes}
+use Rattle.gate_store.proofs.Fresh.{good-fresh-gate}
 use Rattle.reach.specs.Reach.{made-fresh}
 use Rattle.history.specs.Demand3.{Stores, bankIn, Making, newBank, newGate, made, Made}
 use Rattle.history.specs.Sets.{gateIn, Sound}
 use Rattle.history.proofs.Calls.{gate-answer}
-use Rattle.history.proofs.Given.{gate-back, gate-passes, good-fresh-gate}
 
 -- ---- the gate's settings
 

@@ -1,24 +1,23 @@
 -- The gate's half of demand 3: gates of equal settings whose numbers of accepted updates agree modulo twice every length have equal windows
 -- after the same 1,500 updates or more, and so equal rises where early rise is absent. Uses no law of floats. Assumes nothing.
 use mathlib.Core.Path.{_≡_, refl, sym, ap, ap₂, _∙_}
-use mathlib.Core.List.{List, [], _∷_, _++_, map, map-id, map-map}
-use mathlib.Core.Bool.{Bool, true, false, cond, _||_}
-use Prim.Native.Nat.{ℕ, zero, suc, _*_, _%_, _≤_, _<_}
+use mathlib.Core.List.{List, [], _∷_, map, map-id, map-map}
+use mathlib.Core.Bool.{Bool, true, false, _||_}
+use Prim.Native.Nat.{ℕ, _*_, _%_, _≤_, _<_}
 use native.Mathlib.Nat.{zero-add}
 use native.Mathlib.Omega.{arith}
-use lib.ListN.{length, getD, replicate, length-replicate, getD-replicate}
+use lib.ListN.{length}
 use lib.Dec.{eqb}
 use borrow.Author.Tests.{eqb-true, eq-eqb}
-use lib.Ieee.{Float}
 use Rattle.laws.specs.Tests.{within}
 use Rattle.laws.proofs.Tests.{by-test, and-l, and-r, within-of}
 use Rattle.laws.proofs.Tabs.{tab-same}
-use Rattle.model.specs.Numbers.{f0}
 use Rattle.model.specs.Bank.{FloorBank}
 use Rattle.model.specs.Windows.{PowerLooks, freshLook, stepLook}
 use Rattle.model.specs.Gate.{Gate, Settings, among, distinct, freshGate, sampleOf, gateStep, earlyRise, thresholdAt, windowRise, riseBytes}
 use Rattle.model.specs.GateCalls.{GateHop, allWithin, goodLengths}
 use Rattle.gate_store.specs.GoodGate.{GoodLook}
+use Rattle.gate_store.proofs.Fresh.{good-fresh-look}
 use Rattle.history.proofs.Windows.{runLook, good-run-look, m-run, cursor-run, look-forgets}
 
 abbrev pub runGate : Gate → List GateHop → Gate
@@ -82,21 +81,6 @@ every-distinct P seen (m ∷ ms) h =
     rest x a = h x (or-r-true (eqb x m) (among x ms) a)
 
 -- ---- two histories of one length, and what follows
-
-good-fresh-look : (n m : ℕ) → 1 ≤ m → m ≤ 375 → GoodLook n (freshLook n m)
-unfolding freshLook
-good-fresh-look n m some few =
-    record {
-      some = some;
-      few = few;
-      cursor = omega arith;
-      filled = omega arith;
-      at-start = λ _. refl;
-      rings-long = length-replicate n (replicate (2 * m) f0);
-      ring-long = λ k h. rw (getD-replicate n k (replicate (2 * m) f0) [] h) (length-replicate (2 * m) f0);
-      recent-long = length-replicate n f0;
-      previous-long = length-replicate n f0;
-    }
 
 look-history : (n m : ℕ) (xs ys fs : List GateHop) → Length (length xs) (length ys) m → 1500 ≤ length fs
     → runLook n (runLook n (freshLook n m) xs) fs ≡ runLook n (runLook n (freshLook n m) ys) fs

@@ -1,13 +1,13 @@
 -- A set that was fresh is sound whatever it heard, and the conditions of demand 3 can be met. Assumes nothing.
-use mathlib.Core.Path.{_≡_, refl, sym, ap, _∙_}
+use mathlib.Core.Path.{_≡_, refl, ap, _∙_}
 use mathlib.Core.List.{List, [], _∷_, _++_}
-use mathlib.Core.Bool.{Bool, true, false, cond, _&&_}
-use Prim.Native.Nat.{ℕ, zero, suc, _+_, _≤_}
+use mathlib.Core.Bool.{true, false}
+use Prim.Native.Nat.{ℕ, zero, suc, _≤_}
 use native.Mathlib.Omega.{arith}
-use lib.ListN.{length, replicate, length-append, length-replicate}
+use lib.ListN.{length, replicate}
 use lib.Dec.{eqb}
 use lib.IntN.{pos}
-use lib.Ieee.{Float, nan, binary64, add, sub, sum, neg, round, odd, units, size, span, climb, ofFields, mul, lt, le, isNan, ofBits}
+use lib.Ieee.{add, sub, sum, neg, round, odd, units, size, span, climb, ofFields, mul, lt, le, isNan, ofBits}
 use lib.Count.{trailingZeros}
 use Rattle.laws.specs.Tests.{allBelow, anyBelow}
 use Rattle.laws.proofs.Tests.{by-test}
@@ -18,7 +18,7 @@ use Rattle.model.specs.Refusals.{makeRefusal, garbled}
 use Rattle.model.specs.Calls.{bankNew}
 use Rattle.model.specs.Gate.{Gate, distinct, freshGate}
 use Rattle.model.specs.GateCalls.{GateHop, goodLengths, stored, floatsFor, gateMakeRefusal, settingsOf, gateNew}
-use Rattle.history.specs.Demand3.{Call, bank, gate, hold, Stores, answer, left, arguments, bankHop, gateHop, bankHops, gateHops, loud, firstSlowLoud, bankIn, Making, newBank, newGate, made, Made, Enough}
+use Rattle.history.specs.Demand3.{Call, bank, gate, Stores, answer, left, arguments, bankHop, gateHop, bankHops, gateHops, loud, firstSlowLoud, bankIn, Making, newBank, newGate, made, Made, Enough}
 use Rattle.history.specs.Sets.{gateIn, Sound, StaySound, CanBeMet}
 use Rattle.history.proofs.Floors.{n-run}
 use Rattle.history.proofs.Rises.{make-run}

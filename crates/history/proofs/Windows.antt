@@ -2,7 +2,7 @@
 -- Assumes nothing.
 use mathlib.Core.Path.{_≡_, refl, sym, ap, ap₂, _∙_, subst}
 use mathlib.Core.List.{List, [], _∷_, _++_}
-use Prim.Native.Nat.{ℕ, zero, suc, _+_, _-_, _*_, _%_, _≤_, _<_, min}
+use Prim.Native.Nat.{ℕ, zero, suc, _+_, _*_, _%_, _≤_, _<_, min}
 use native.Mathlib.Nat.{mod-eq-of-lt, mod-self, mod-lt, mod-add-mod, add-zero}
 use native.Mathlib.Numerals.{add-one}
 use native.Mathlib.Omega.{arith}
@@ -19,7 +19,7 @@ use Rattle.model.specs.Windows.{PowerLooks, turned, grown, ringOf, pushLook, ad
 use Rattle.model.specs.Gate.{sampleOf}
 use Rattle.model.specs.GateCalls.{GateHop}
 use Rattle.gate_store.specs.GoodGate.{GoodLook}
-use Rattle.history.proofs.Given.{good-step-look}
+use Rattle.gate_store.proofs.Fresh.{good-step-look}
 
 abbrev pub runLook : ℕ → PowerLooks → List GateHop → PowerLooks
 runLook n l [] = l
