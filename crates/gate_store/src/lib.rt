@@ -1,15 +1,29 @@
 // Document 01, "Stores", the gate's half: the test of a lent gate, the refusals in their order, and a fresh gate.
+pub mod lengths;
+pub mod making;
 pub mod sound;
 
 ghost use mathlib.Core.Path.{_≡_};
-ghost use lib.ListN.{length};
-ghost use Rattle.model.specs.GateCalls.{gateRefusal, pairRefusal, gateUpdateRefusal, holdRefusal};
+ghost use Rattle.model.specs.GateCalls.{gateFLenFor, gateRefusal, pairRefusal, gateUpdateRefusal, holdRefusal};
 ghost use Rattle.gate_store.specs.Checks.{twoLong, fourLong, smoothedRefusal, earlyRefusal};
 
 fn wide(x: u16) -> usize
     ensures { λ r. ⌜ r ≡ x ⌝ }
 {
     x as usize
+}
+
+// How many f64 a gate of n channels and these lengths takes; 0 where making refuses them.
+pub fn gate_f_len(n: usize, lengths: &[u16]) -> usize
+    ensures { λ r. ⌜ r ≡ gateFLenFor n (now (lengths .entry)) ⌝ }
+{
+    if !stores::in_band(n) {
+        return 0;
+    }
+    if !lengths::lengths_good(lengths) {
+        return 0;
+    }
+    lengths::floats_for(n, lengths)
 }
 
 // Whether the lent stores are a gate: 0, or the number of the refusal.

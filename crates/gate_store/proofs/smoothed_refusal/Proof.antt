@@ -1,10 +1,10 @@
 use mathlib.Core.Path.{_≡_, sym, _∙_}
 use native.Mathlib.Omega.{arith}
 use borrow.Author.Tests.{lt-ltb, le-ltb}
+use borrow.Author.Needs.{needs}
 use Rattle.laws.proofs.Tests.{stands, goes-on}
 use Rattle.model.specs.GateCalls.{gateRefusal}
 use Rattle.gate_store.proofs.Sizes.{thirty}
-use borrow.Author.Needs.{needs}
 use Rattle.gate_store.proofs.smoothed_refusal.Statement.{statement}
 use Rattle.gate_store.proofs.smoothed_refusal.Tie as tie
 
