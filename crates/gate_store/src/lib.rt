@@ -5,7 +5,7 @@ pub mod sound;
 
 ghost use mathlib.Core.Path.{_≡_};
 ghost use Rattle.model.specs.GateCalls.{gateFLenFor, gateRefusal, pairRefusal, gateUpdateRefusal, holdRefusal};
-ghost use Rattle.gate_store.specs.Checks.{twoLong, fourLong, smoothedRefusal, earlyRefusal};
+ghost use Rattle.gate_store.specs.Checks.{twoLong, fourLong, channelRefusal, smoothedRefusal, earlyRefusal};
 
 fn wide(x: u16) -> usize
     ensures { λ r. ⌜ r ≡ x ⌝ }
@@ -97,9 +97,9 @@ pub fn gate_update_refusal(
 ) -> u16
     ensures { λ r. ⌜ r ≡ gateUpdateRefusal (now (bank .entry)) (now («bank_f» .entry)) (now (gate .entry)) (now («gate_f» .entry)) «power_db» power rise drop ⌝ }
 {
-    let no = pair_refusal(bank, bank_f, gate, gate_f);
-    if no != 0 {
-        return no;
+    let no_pair = pair_refusal(bank, bank_f, gate, gate_f);
+    if no_pair != 0 {
+        return no_pair;
     }
     four_long(wide(gate[0]), power_db, power, rise, drop)
 }
@@ -115,11 +115,20 @@ pub fn hold_refusal(
 ) -> u16
     ensures { λ r. ⌜ r ≡ holdRefusal (now (bank .entry)) (now («bank_f» .entry)) (now (gate .entry)) (now («gate_f» .entry)) rise drop ⌝ }
 {
-    let no = pair_refusal(bank, bank_f, gate, gate_f);
-    if no != 0 {
-        return no;
+    let no_pair = pair_refusal(bank, bank_f, gate, gate_f);
+    if no_pair != 0 {
+        return no_pair;
     }
     two_long(wide(gate[0]), rise, drop)
+}
+
+fn channel_refusal(n: usize, k: usize) -> u16
+    ensures { λ r. ⌜ r ≡ channelRefusal n k ⌝ }
+{
+    if k < n {
+        return 0;
+    }
+    7
 }
 
 // Whether the gate has a smoothed dB of channel k.
@@ -130,22 +139,16 @@ pub fn smoothed_refusal(gate: &[u16], gate_f: &[f64], k: usize) -> u16
     if no != 0 {
         return no;
     }
-    if k < wide(gate[0]) {
-        return 0;
-    }
-    7
+    channel_refusal(wide(gate[0]), k)
 }
 
 // Whether bank and gate have an early rise of channel k.
 pub fn early_refusal(bank: &[u16], bank_f: &[f64], gate: &[u16], gate_f: &[f64], k: usize) -> u16
     ensures { λ r. ⌜ r ≡ earlyRefusal (now (bank .entry)) (now («bank_f» .entry)) (now (gate .entry)) (now («gate_f» .entry)) k ⌝ }
 {
-    let no = pair_refusal(bank, bank_f, gate, gate_f);
-    if no != 0 {
-        return no;
+    let no_pair = pair_refusal(bank, bank_f, gate, gate_f);
+    if no_pair != 0 {
+        return no_pair;
     }
-    if k < wide(gate[0]) {
-        return 0;
-    }
-    7
+    channel_refusal(wide(gate[0]), k)
 }
