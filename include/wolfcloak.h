@@ -1,13 +1,13 @@
 /*
- * Wolfcloak: noise floors for a Morse watch handset.
+ * Wolfcloak: noise floors, rises and drops for a Morse watch handset.
  *
- * Link with libwolfcloak.a. Nothing here allocates or keeps anything: all that a bank knows lies in two stores that the
+ * Link with libwolfcloak.a. Nothing here allocates or keeps anything: all that a bank or a gate knows lies in two stores that the
  * caller lends to each call. A slice is a pointer and then its length in elements. No pointer may be NULL, that of an empty
  * slice neither, and what a call writes may not overlap anything else lent to it.
  *
  * Every call answers 0, or the number of the first refusal that is due. A refusal changes nothing: stores, outputs and values
- * hold what they held before. Any contents of a store and any bits of a float may be handed in; a call tests the whole store
- * first.
+ * hold what they held before. Any contents of a store and any bits of a float may be handed in; a call tests the whole of each
+ * store that it is lent first.
  *
  * A bank is made once, by wolfcloak_bank_new, and fed one hop at a time (375 a second). Every 15th hop, the first among
  * them, is a slow hop: it steps the floors. A gate of the same n is made once, by wolfcloak_gate_new, and fed the same hops after
@@ -30,7 +30,7 @@ extern "C" {
 #define WOLFCLOAK_REFUSED_BAND 1       /* making: n outside 1..512 */
 #define WOLFCLOAK_REFUSED_STORE_SIZE 2 /* a store's length isn't the one for its n */
 #define WOLFCLOAK_REFUSED_LENGTHS 3    /* making a gate: no window length, over 8, or one outside 1..375 */
-#define WOLFCLOAK_REFUSED_LEVEL 4      /* making a gate: a level outside -800..800 eighths of a dB */
+#define WOLFCLOAK_REFUSED_LEVEL 4      /* making a gate: a level outside -800..800 eighths of a dB, and not an absent early */
 #define WOLFCLOAK_REFUSED_HOP_SIZE 5   /* a hop or output slice isn't n long */
 #define WOLFCLOAK_REFUSED_GARBLED 6    /* a slow hop with a NaN dB in a block of two or more channels */
 #define WOLFCLOAK_REFUSED_CHANNEL 7    /* channel number n or more */
