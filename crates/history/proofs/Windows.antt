@@ -143,7 +143,9 @@ meet n sample l r v e t =
   where
     ring : (k : ℕ) → k < n → set (ringOf l k) (l .cursor) (sample k) ≡ set (ringOf r k) (r .cursor) (sample k)
     ring k h =
-        sym (take-all (suc (l .cursor)) (set (ringOf l k) (l .cursor) (sample k)) (omega (arith, v .good .ring-long k h, length-set (ringOf l k) (l .cursor) (sample k))))
+        sym
+        (take-all (suc (l .cursor)) (set (ringOf l k) (l .cursor) (sample k))
+        (omega (arith, v .good .ring-long k h, length-set (ringOf l k) (l .cursor) (sample k))))
         ∙ sym (ap (take (suc (l .cursor))) (ring-step n sample l k h))
         ∙ front-step n sample l r v e k h
         ∙ ap (take (suc (l .cursor))) (ring-step n sample r k h)
