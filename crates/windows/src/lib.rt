@@ -1,4 +1,7 @@
 // Document 01, "Windows, ladder, gate": the windows of one length, over its part of the gate's f64 store.
+ghost use mathlib.Core.Path.{_≡_};
+ghost use Prim.Native.Nat.{_*_, _<_};
+ghost use Rattle.windows.specs.Looks.{CursorFits, advancedOf, middleFrom};
 
 // Where the windows of one length stand: its length, the place of the next sample and how many places are filled.
 pub struct Cursor {
@@ -11,4 +14,44 @@ pub struct Cursor {
 pub struct Middle {
     pub cursor: Cursor,
     pub place: usize,
+}
+
+impl Cursor {
+    // One hop on: the place wraps at 2m, and filled stops there.
+    pub fn advance(self) -> Cursor
+        requires { ⌜ CursorFits self ⌝ }
+        ensures { λ r. ⌜ r ≡ advancedOf self ⌝ }
+    {
+        let m = self.m;
+        let at = self.at;
+        let filled = self.filled;
+        let width = 2 * m;
+        let next = (at + 1) % width;
+        if filled < width {
+            return Cursor {
+                m: m,
+                at: next,
+                filled: filled + 1,
+            };
+        }
+        Cursor {
+            m: m,
+            at: next,
+            filled: width,
+        }
+    }
+
+    // Half a ring on from the place of the next sample.
+    pub fn middle(self) -> Middle
+        requires { ⌜ CursorFits self ⌝ }
+        ensures { λ r. ⌜ (r ≡ middleFrom self) × (r .place < 2 * self .m) ⌝ }
+    {
+        let m = self.m;
+        let at = self.at;
+        let place = (at + m) % (2 * m);
+        Middle {
+            cursor: self,
+            place: place,
+        }
+    }
 }

@@ -1,5 +1,5 @@
 -- `readings::channel_floor_db` meets its contract. Assumes nothing.
-use mathlib.Core.Path.{_≡_, sym, _∙_}
+use mathlib.Core.Path.{sym, _∙_}
 use native.Mathlib.Omega.{arith}
 use Rattle.model.specs.Readings.{rawReading}
 use Rattle.readings.specs.Readable.{Readable}

@@ -1,13 +1,11 @@
 -- `readings::effective_at` meets its contract. Assumes nothing.
-use mathlib.Core.Path.{_≡_, ap, _∙_}
-use Prim.Native.Nat.{ℕ, _+_, _*_, _/_}
+use mathlib.Core.Path.{ap, _∙_}
+use Prim.Native.Nat.{ℕ, _+_, _*_}
 use native.Mathlib.Omega.{arith}
-use lib.ListN.{getD, length}
 use Rattle.laws.specs.Lists.{part}
 use Rattle.laws.proofs.Lists.{width, length-part}
 use Rattle.model.specs.Ring.{since}
-use Rattle.model.specs.Stores.{chanOf, chanPart, base}
-use Rattle.ring.specs.Sound.{Sound}
+use Rattle.model.specs.Stores.{chanOf, base}
 use Rattle.readings.proofs.Places.{effective-read, block-below}
 use borrow.Author.Needs.{needs}
 use Rattle.readings.proofs.effective_at.Statement.{statement}

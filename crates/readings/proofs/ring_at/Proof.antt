@@ -1,4 +1,8 @@
 -- `readings::ring_at` meets its contract. Assumes nothing.
+use mathlib.Core.Path.{ap}
+use denote.Ref.{now}
+use Prim.Native.Nat.{ℕ}
+use Rattle.laws.specs.Lists.{part}
 use Rattle.laws.proofs.Lists.{width}
 use borrow.Author.Needs.{needs}
 use Rattle.readings.proofs.ring_at.Statement.{statement}
@@ -20,7 +24,12 @@ part-result-end : tie.Need-part-result-end
 part-result-end c = search needs
 
 returns : tie.Need-returns
-returns c = record { memory = search needs; offset = search needs; holds = rw (width (c .before .args .a) 250) }
+returns c = let s = c .before in
+    record {
+      memory = search needs;
+      offset = search needs;
+      holds = ap (λ (w : ℕ). part (s .args .a) w (now (s .args .bank))) (width (s .args .a) 250);
+    }
 
 pub ring-at-spec : {M : Type 1} → statement M
 ring-at-spec =

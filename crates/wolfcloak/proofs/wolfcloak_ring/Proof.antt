@@ -1,11 +1,11 @@
 -- `wolfcloak::wolfcloak_ring` meets its contract. Assumes nothing.
-use mathlib.Core.Path.{_≡_, sym, ap, _∙_}
+use mathlib.Core.Path.{_≡_, sym, _∙_}
 use mathlib.Core.List.{List}
 use denote.Ref.{now}
 use Prim.Native.Nat.{ℕ, _+_, _*_}
 use lib.ListN.{getD}
 use lib.Ieee.{Float}
-use borrow.Author.Tests.{eq-eqb, ne-eqb}
+use borrow.Author.Tests.{ne-eqb}
 use Rattle.model.specs.Stores.{base}
 use Rattle.model.specs.Refusals.{readRefusal}
 use Rattle.model.specs.Readings.{ringStart, ringLength}
