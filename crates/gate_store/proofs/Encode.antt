@@ -65,7 +65,7 @@ gate-forth-f u f e =
     C : ℕ
     C = getD u 5 0
 
-header : (u : List ℕ) → 6 ≤ length u → getD u 0 0 ∷ getD u 1 0 ∷ getD u 2 0 ∷ getD u 3 0 ∷ getD u 4 0 ∷ getD u 5 0 ∷ drop 6 u ≡ u
+pub header : (u : List ℕ) → 6 ≤ length u → getD u 0 0 ∷ getD u 1 0 ∷ getD u 2 0 ∷ getD u 3 0 ∷ getD u 4 0 ∷ getD u 5 0 ∷ drop 6 u ≡ u
 header [] e = absurd (omega arith)
 header (a ∷ []) e = absurd (omega arith)
 header (a ∷ b ∷ []) e = absurd (omega arith)
@@ -83,7 +83,7 @@ triples-forth u f c e =
     ∙ joined-parts 6 3 c u
 
 -- entries that are not used are zero
-zeros-forth : (u : List ℕ) (a w : ℕ) → a + w ≤ length u → ((i : ℕ) → a ≤ i → i < a + w → getD u i 0 ≡ 0) → replicate w 0 ≡ part a w u
+pub zeros-forth : (u : List ℕ) (a w : ℕ) → a + w ≤ length u → ((i : ℕ) → a ≤ i → i < a + w → getD u i 0 ≡ 0) → replicate w 0 ≡ part a w u
 zeros-forth u a w e zero-at =
     ext-getD 0 (replicate w 0) (part a w u) (length-replicate {A = ℕ} w 0 ∙ sym (length-part a w u e))
     (λ i h.
