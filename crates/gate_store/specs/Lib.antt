@@ -1,1 +1,2 @@
 pub mod GoodGate
+pub mod Checks
