@@ -5,12 +5,12 @@ use mathlib.Core.List.{List, [], _++_}
 use Prim.Native.Nat.{ℕ, _+_, _*_, _<_, _≤_}
 use native.Mathlib.Nat.{zero-add}
 use native.Mathlib.Omega.{arith}
-use lib.ListN.{length, getD, take, drop, length-append, length-drop}
+use lib.ListN.{length, take, drop, length-append, length-drop}
 use lib.Seq.{take-all, take-append-le, drop-append-le}
 use lib.Ieee.{Float}
 use Rattle.laws.specs.Lists.{part, tab, joined}
-use Rattle.laws.proofs.Lists.{row, part-mid}
-use Rattle.laws.proofs.Tabs.{tab-ext, tab-getD, length-joined}
+use Rattle.laws.proofs.Lists.{row, length-part, part-mid}
+use Rattle.laws.proofs.Tabs.{length-tab, getD-tab, tab-ext, tab-getD, length-joined}
 use Rattle.laws.proofs.Joined.{joined-parts, part-joined, parts-meet, part-skip, part-last}
 use Rattle.model.specs.Windows.{PowerLooks, ringOf}
 use Rattle.model.specs.GateStores.{lookSize, lookF, lookOf}
@@ -61,12 +61,17 @@ module _ (n : ℕ) (s : PowerLooks) (sh : Shaped n s) where
         sh .previous-long,
       )
 
+  -- ring k as it stands among the rings
+  pub ring-part : (k : ℕ) → k < n → part (2 * s .m * k) (2 * s .m) (joined (s .rings)) ≡ ringOf s k
+  ring-part k h =
+      ap (λ (r : List (List Float)). part (2 * s .m * k) (2 * s .m) (joined r)) (sym rings-tab)
+      ∙ part-joined (2 * s .m) n k (ringOf s) (sh .ring-long) h
+
   -- each of the three groups, read
   pub get-ring : (k : ℕ) → k < n → part (2 * s .m * k) (2 * s .m) (lookF s) ≡ ringOf s k
   get-ring k h =
       part-front (joined (s .rings)) (s .recent ++ s .previous) (2 * s .m * k) (2 * s .m) (omega (arith, rings-long, row (2 * s .m) k n h))
-      ∙ ap (λ (r : List (List Float)). part (2 * s .m * k) (2 * s .m) (joined r)) (sym rings-tab)
-      ∙ part-joined (2 * s .m) n k (ringOf s) (sh .ring-long) h
+      ∙ ring-part k h
 
   pub get-recent : part (2 * s .m * n) n (lookF s) ≡ s .recent
   get-recent = part-mid (joined (s .rings)) (s .recent) (s .previous) (2 * s .m * n) n rings-long (sh .recent-long)
@@ -86,3 +91,15 @@ module _ (n : ℕ) (s : PowerLooks) (sh : Shaped n s) where
         recent = get-recent i;
         previous = get-previous i;
       }
+
+-- the windows that are read from a part of the right length
+pub read-shaped : (n m c t : ℕ) (l : List Float) → length l ≡ lookSize n m → Shaped n (lookOf n m c t l)
+read-shaped n m c t l e =
+    record {
+      rings-many = length-tab n (λ k. part (2 * m * k) (2 * m) l);
+      ring-long = λ k h.
+          ap length (getD-tab n (λ i. part (2 * m * i) (2 * m) l) k [] h)
+          ∙ length-part (2 * m * k) (2 * m) l (omega (arith, row (2 * m) k n h));
+      recent-long = length-part (2 * m * n) n l (omega arith);
+      previous-long = length-part (2 * m * n + n) n l (omega arith);
+    }

@@ -1,6 +1,6 @@
 -- `windows::Cursor::advance` meets its contract. Assumes nothing.
 use mathlib.Core.Path.{_≡_}
-use Prim.Native.Nat.{ℕ, _+_, _*_, min}
+use Prim.Native.Nat.{_+_, _*_}
 use native.Mathlib.Omega.{arith}
 use Rattle.model.specs.Windows.{turned, grown}
 use borrow.Author.Needs.{needs}
