@@ -1,20 +1,19 @@
 -- What the loops over a ready bank's stores use and leave. Assumes nothing.
-use mathlib.Core.Path.{_≡_, refl, sym, ap, ap₂, subst, _∙_}
+use mathlib.Core.Path.{_≡_, refl, sym, ap, subst, _∙_}
 use mathlib.Core.Bool.{Bool, true, false, cond}
-use mathlib.Core.List.{List, [], _∷_, _++_, map}
-use Prim.Native.Nat.{ℕ, zero, suc, _+_, _-_, _*_, _/_, _<_, _≤_, min}
+use mathlib.Core.List.{List, [], _++_, map}
+use Prim.Native.Nat.{ℕ, zero, suc, _+_, _-_, _*_, _/_, _<_, _≤_}
 use native.Mathlib.Omega.{arith}
 use lib.Dec.{eqb}
-use lib.ListN.{length, getD, take, drop, length-append, length-take, length-drop}
-use lib.Seq.{ext-getD, getD-take}
+use lib.ListN.{length, getD, length-append, length-take}
 use lib.Ieee.{Float, nan}
-use Rattle.laws.specs.Lists.{part, splice, tab, joined, occ}
+use Rattle.laws.specs.Lists.{part, splice, tab, joined}
 use Rattle.laws.proofs.Lists.{width, row, length-part, length-splice, getD-part, getD-past, getD-before, part-past, part-before}
-use Rattle.laws.proofs.Tabs.{length-tab, getD-tab, tab-same, tab-ext, tab-getD, length-joined, map-tab, parts-turn}
+use Rattle.laws.proofs.Tabs.{getD-tab, tab-same, tab-ext, tab-getD, length-joined, map-tab, parts-turn}
 use Rattle.laws.proofs.Defaults.{getD-any}
 use Rattle.block.specs.Seeds.{Seedable, Seeded, pushesAt, sumAt}
 use Rattle.model.specs.Numbers.{f0, powerLinear, smoothed}
-use Rattle.model.specs.Ring.{ChannelFloor, binOf, pushIn, rawFloor, usableFloor, since, entries}
+use Rattle.model.specs.Ring.{binOf, pushIn, rawFloor, usableFloor, since, entries}
 use Rattle.model.specs.Bank.{FloorBank, hop, powerAfter, smoothAfter, seedsAfter, sumsAfter, block, blocks, median, riseFloor, channel, channelAfter, chansAfter, freshChannel, rawFloors, usableFloors, blockFloors, riseFloors}
 use Rattle.model.specs.Stores.{chanU, chanOf, chanPart, base, bankU, bankF, bankOf, bankLen, bankFLen}
 use Rattle.ring.specs.Sound.{Sound}
@@ -23,7 +22,7 @@ use Rattle.ring.proofs.Stored.{length-chanU}
 use Rattle.ring.proofs.Sound.{sound-push}
 use Rattle.ring.proofs.Floats.{bin-below}
 use Rattle.stores.specs.Good.{Good, Ready}
-use Rattle.stores.proofs.Encode.{Lengths, bank-forth-u, bank-forth-f, get-raw, get-usable, get-smooth, get-rise, get-block, get-sums, put-raw, put-usable, put-smooth, put-rise, put-block, put-sums, put-seeds, put-chans}
+use Rattle.stores.proofs.Encode.{Lengths, bank-forth-u, bank-forth-f, put-raw, put-usable, put-smooth, put-rise, put-block, put-sums, put-seeds, put-chans}
 use Rattle.bank.specs.Steps.{Holds, smoothStep, seedStep, pushStep, rawStep, usableStep, blockStep, riseStep}
 
 -- ---- what a loop knows of the stores of n channels

@@ -3,8 +3,7 @@
 use mathlib.Core.Path.{_≡_, refl, sym, ap, subst, _∙_}
 use mathlib.Core.Bool.{Bool, _||_}
 use mathlib.Core.List.{List, []}
-use Prim.Native.Nat.{ℕ, zero, suc, _+_, _/_, _%_, _<_, _≤_}
-use native.Mathlib.Nat.{mod-lt}
+use Prim.Native.Nat.{ℕ, zero, suc, _/_, _<_, _≤_}
 use native.Mathlib.Omega.{arith}
 use lib.Dec.{eqb}
 use lib.ListN.{length, getD}
@@ -15,7 +14,7 @@ use Rattle.laws.proofs.Tabs.{length-tab, getD-tab}
 use Rattle.model.specs.Numbers.{f0}
 use Rattle.model.specs.Ring.{ChannelFloor, binOf}
 use Rattle.model.specs.Bank.{FloorBank, Hop, hop, blocks, channel, channelAfter, freshChannel, smoothAfter, seedsAfter, sumsAfter, chansAfter, rawFloors, usableFloors, blockFloors, riseFloors, slowStep, fastStep, stepAt, bankStep}
-use Rattle.model.specs.Stores.{bankU, bankF, bankOf, bankLen}
+use Rattle.model.specs.Stores.{bankU, bankF, bankOf}
 use Rattle.model.specs.Refusals.{bankRefusal, updateRefusal}
 use Rattle.model.specs.Calls.{leaves, bankUpdate}
 use Rattle.ring.specs.Sound.{Sound}

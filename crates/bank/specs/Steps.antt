@@ -1,5 +1,5 @@
 -- The bank update in the steps that the code takes: each is a bank with one or two of its lists replaced.
--- `stepped` in proofs/Laws.antt shows that together they are `bankStep`.
+-- `slow-step` and `fast-step` in proofs/Stages.antt show that together they are `bankStep`.
 use mathlib.Core.Path.{_≡_}
 use mathlib.Core.Bool.{Bool}
 use mathlib.Core.List.{List, []}

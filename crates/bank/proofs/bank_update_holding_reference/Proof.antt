@@ -6,41 +6,33 @@ use Rattle.bank.proofs.Stages.{refused, accepted, asked}
 use Rattle.bank.proofs.bank_update_holding_reference.Statement.{statement}
 use Rattle.bank.proofs.bank_update_holding_reference.Tie as tie
 
--- src/lib.rt:73:9
 update-refusal-requires : tie.Need-update-refusal-requires
 update-refusal-requires c κs = search needs
 
--- src/lib.rt:75:9
 same-length : tie.Need-same-length
 same-length c = search needs
 
--- src/lib.rt:75:9
 same-length-2 : tie.Need-same-length-2
 same-length-2 c = search needs
 
--- src/lib.rt:75:9
 returns : tie.Need-returns
 returns c =
     let q = c .before in
     let s = q .before .before .before .before .before .before .before in
     refused (s .args .bank .now) (s .args .bank-f .now) (hop (s .args .hold-reference) (s .args .power-db .now) (s .args .power .now)) (q .update-refusal .result) (q .update-refusal .ensures) (c .if1 .taken)
 
--- src/lib.rt:77:5
 take-hop-requires : tie.Need-take-hop-requires
 take-hop-requires c κs =
     let e = c .before .before in
     let s = e .before .before .before .before .before .before .before .before in
     asked (s .args .bank .now) (s .args .bank-f .now) (s .args .power-db .now) (s .args .power .now) (sym (e .before .update-refusal .ensures) ∙ e .if1 .left)
 
--- src/lib.rt:70:1
 same-length-3 : tie.Need-same-length-3
 same-length-3 c = search needs
 
--- src/lib.rt:70:1
 same-length-4 : tie.Need-same-length-4
 same-length-4 c = search needs
 
--- src/lib.rt:70:1
 returns-2 : tie.Need-returns-2
 returns-2 c =
     let t = c .before .before .before .before in

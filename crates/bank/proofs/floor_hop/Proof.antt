@@ -1,6 +1,6 @@
 -- `bank::floor_hop` meets its contract: after each call the two stores hold the bank of the step, and the last is the whole of (b).
 -- Assumes nothing.
-use mathlib.Core.Path.{_≡_, refl, sym, ap, subst, _∙_}
+use mathlib.Core.Path.{_≡_, sym, subst}
 use mathlib.Core.List.{List}
 use Prim.Native.Nat.{ℕ}
 use lib.ListN.{length}
@@ -8,7 +8,7 @@ use lib.Ieee.{Float}
 use borrow.Author.Needs.{needs}
 use Rattle.model.specs.Bank.{FloorBank, rawFloors}
 use Rattle.model.specs.Stores.{bankOf}
-use Rattle.bank.specs.Steps.{Holds, seedStep, pushStep, rawStep, usableStep, blockStep, riseStep, floorStep}
+use Rattle.bank.specs.Steps.{seedStep, pushStep, rawStep, usableStep, blockStep, riseStep, floorStep}
 use Rattle.bank.proofs.Stages.{At, at-start, ready-at, bank-at, both, only-floats, only-u16s, keeps-seed, keeps-push, keeps-raw, keeps-usable, keeps-block, keeps-rise, push-f, raw-u, usable-u, block-u, rise-u, raw-known}
 use Rattle.bank.proofs.floor_hop.Statement.{statement}
 use Rattle.bank.proofs.floor_hop.Tie as tie
@@ -83,42 +83,33 @@ at5 c = only-floats _ _ _ _ (at4 (p4 c)) blockStep keeps-block block-u _ (c .blo
 at6 : (c : tie.After-rise-floors) → At (m (s6 c)) (riseStep (blockStep (usableStep (rawStep (b2 (s6 c)))))) (u2 (p2 (p3 (p4 (p5 c))))) (c .rise-floors .last .0)
 at6 c = only-floats _ _ _ _ (at5 (p5 c)) riseStep keeps-rise rise-u _ (c .rise-floors .ensures)
 
--- src/lib.rt:38:5
 take-seeds-requires : tie.Need-take-seeds-requires
 take-seeds-requires c κs = search needs
 
--- src/lib.rt:39:5
 push-all-requires : tie.Need-push-all-requires
 push-all-requires c κs = ready-at _ _ _ _ (at1 (c .before .before .before .before .before .before))
 
--- src/lib.rt:40:5
 raw-floors-requires : tie.Need-raw-floors-requires
 raw-floors-requires c κs = ready-at _ _ _ _ (at2 (c .before .before .before .before))
 
--- src/lib.rt:41:5
 usable-floors-requires : tie.Need-usable-floors-requires
 usable-floors-requires c κs =
     let r = c .before .before .before .before in
     let b = rawStep (b2 (s3 r)) in
     (ready-at _ _ _ _ (at3 r), subst (λ (x : FloorBank). x .raw ≡ rawFloors (x .n) (x .chans)) (sym (bank-at _ _ _ _ (at3 r))) (raw-known (b2 (s3 r))))
 
--- src/lib.rt:42:5
 block-floors-requires : tie.Need-block-floors-requires
 block-floors-requires c κs = ready-at _ _ _ _ (at4 (c .before .before .before .before))
 
--- src/lib.rt:43:5
 rise-floors-requires : tie.Need-rise-floors-requires
 rise-floors-requires c κs = ready-at _ _ _ _ (at5 (c .before .before .before .before))
 
--- src/lib.rt:33:1
 same-length : tie.Need-same-length
 same-length c = search needs
 
--- src/lib.rt:33:1
 same-length-2 : tie.Need-same-length-2
 same-length-2 c = search needs
 
--- src/lib.rt:33:1
 returns : tie.Need-returns
 unfolding floorStep
 returns c =

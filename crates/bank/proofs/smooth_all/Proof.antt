@@ -1,21 +1,18 @@
-use mathlib.Core.Path.{_≡_, refl, sym, ap, _∙_}
-use mathlib.Core.Bool.{Bool, true, false}
-use mathlib.Core.List.{List}
-use Prim.Native.Nat.{ℕ, _+_, _-_, _*_}
+-- `bank::smooth_all` meets its contract: the powers are started, left or smoothed, in the part that holds them. Assumes nothing.
+use mathlib.Core.Path.{_≡_, sym, ap, _∙_}
+use mathlib.Core.Bool.{Bool, false}
+use Prim.Native.Nat.{_+_, _-_, _*_}
 use native.Mathlib.Omega.{arith}
-use lib.ListN.{length, getD}
-use lib.Ieee.{Float}
+use lib.ListN.{length}
 use borrow.Author.Needs.{needs}
-use Rattle.laws.specs.Lists.{part, splice, tab}
+use Rattle.laws.specs.Lists.{part}
 use Rattle.laws.proofs.Lists.{width, length-part}
-use Rattle.model.specs.Numbers.{f0, powerLinear, smoothed}
 use Rattle.model.specs.Stores.{bankF, bankOf}
 use Rattle.bank.specs.Steps.{smoothStep}
 use Rattle.bank.proofs.Loops.{Fits, fits, smooth-done, starts, goes-on, held-stays}
 use Rattle.bank.proofs.smooth_all.Statement.{statement}
 use Rattle.bank.proofs.smooth_all.Tie as tie
 
--- src/lib.rt:20:13
 fit : (s : tie.Start) → Fits (s .args .bank .now) (s .args .bank-f .now) (length (s .args .power .now))
 fit s = fits (s .args .bank .now) (s .args .bank-f .now) (length (s .args .power .now)) (s .pre .0) (s .pre .1)
 
@@ -28,39 +25,30 @@ smooth-long s =
 mul-a : tie.Need-mul-a
 mul-a c = search needs
 
--- src/lib.rt:21:13
 add-e : tie.Need-add-e
 add-e c = search needs
 
--- src/lib.rt:22:8
 shared-slice-read-if1 : tie.Need-shared-slice-read-if1
 shared-slice-read-if1 c = search needs
 
--- src/lib.rt:23:37
 mul-start-powers : tie.Need-mul-start-powers
 mul-start-powers c = search needs
 
--- src/lib.rt:23:37
 sub-start-powers : tie.Need-sub-start-powers
 sub-start-powers c = search needs
 
--- src/lib.rt:23:37
 part-start-powers-start : tie.Need-part-start-powers-start
 part-start-powers-start c = search needs
 
--- src/lib.rt:23:37
 part-start-powers-end : tie.Need-part-start-powers-end
 part-start-powers-end c = search needs
 
--- src/lib.rt:23:9
 start-powers-requires : tie.Need-start-powers-requires
 start-powers-requires c κs = search needs
 
--- src/lib.rt:24:9
 same-length : tie.Need-same-length
 same-length c = search needs
 
--- src/lib.rt:24:9
 returns : tie.Need-returns
 returns c =
     let q = c .before .before in
@@ -72,7 +60,6 @@ returns c =
     smooth-done u f (s .pre .0) n (s .pre .1) (s .args .hold-reference) p (q .start-powers .last .0) _
     (q .start-powers .ensures ∙ starts u f (s .pre .0) n (s .pre .1) (s .args .hold-reference) p (q .before .before .if1 .taken) _ (smooth-long s)) (rw (width (2 * n) n))
 
--- src/lib.rt:27:9
 returns-2 : tie.Need-returns-2
 returns-2 c =
     let s = c .before .before .before .before .before .before in
@@ -81,31 +68,24 @@ returns-2 c =
     let p = s .args .power .now in
     held-stays u f (s .pre .0) (length p) (s .pre .1) p (c .before .if1 .left) ∙ ap (λ (h : Bool). bankF (smoothStep h p (bankOf u f))) (sym (c .if2 .taken))
 
--- src/lib.rt:29:34
 mul-smooth-powers : tie.Need-mul-smooth-powers
 mul-smooth-powers c = search needs
 
--- src/lib.rt:29:34
 sub-smooth-powers : tie.Need-sub-smooth-powers
 sub-smooth-powers c = search needs
 
--- src/lib.rt:29:34
 part-smooth-powers-start : tie.Need-part-smooth-powers-start
 part-smooth-powers-start c = search needs
 
--- src/lib.rt:29:34
 part-smooth-powers-end : tie.Need-part-smooth-powers-end
 part-smooth-powers-end c = search needs
 
--- src/lib.rt:29:5
 smooth-powers-requires : tie.Need-smooth-powers-requires
 smooth-powers-requires c κs = search needs
 
--- src/lib.rt:15:1
 same-length-2 : tie.Need-same-length-2
 same-length-2 c = search needs
 
--- src/lib.rt:15:1
 returns-3 : tie.Need-returns-3
 returns-3 c =
     let q = c .before .before in

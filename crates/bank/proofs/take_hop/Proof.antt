@@ -1,14 +1,12 @@
 -- `bank::take_hop` meets its contract: (a), then (b) on a slow hop, then (c), are the bank's step.
 -- Assumes nothing.
-use mathlib.Core.Path.{_≡_, refl, sym, ap, _∙_}
-use mathlib.Core.List.{List}
+use mathlib.Core.Path.{sym, _∙_}
 use Prim.Native.Nat.{ℕ}
-use lib.ListN.{length, getD}
-use lib.Ieee.{Float}
+use lib.ListN.{length}
 use borrow.Author.Needs.{needs}
-use Rattle.model.specs.Bank.{FloorBank, hop, bankStep}
+use Rattle.model.specs.Bank.{FloorBank}
 use Rattle.model.specs.Stores.{bankOf}
-use Rattle.bank.specs.Steps.{smoothStep, floorStep, phaseStep}
+use Rattle.bank.specs.Steps.{smoothStep, floorStep}
 use Rattle.bank.proofs.Stages.{At, at-start, ready-at, both, only-floats, headed, keeps-smooth, keeps-floor, smooth-u, slow-step, fast-step, phase-of, done}
 use Rattle.bank.proofs.take_hop.Statement.{statement}
 use Rattle.bank.proofs.take_hop.Tie as tie
@@ -40,31 +38,24 @@ at2 : (c : tie.After-floor-hop) → At (m (start (after c))) (floorStep (start (
 at2 c =
     both _ _ _ _ (at1 (after c)) (floorStep (start (after c) .args .power-db .now)) (keeps-floor (start (after c) .args .power-db .now)) _ _ (c .floor-hop .ensures)
 
--- src/lib.rt:60:5
 smooth-all-requires : tie.Need-smooth-all-requires
 smooth-all-requires c κs = search needs
 
--- src/lib.rt:61:8
 slice-read-if1 : tie.Need-slice-read-if1
 slice-read-if1 c = search needs
 
--- src/lib.rt:62:9
 floor-hop-requires : tie.Need-floor-hop-requires
 floor-hop-requires c κs = ready-at _ _ _ _ (at1 (c .before .before .before .before .before .before))
 
--- src/lib.rt:63:9
 advance-requires : tie.Need-advance-requires
 advance-requires c κs = headed _ _ _ _ (at2 (c .before .before .before .before .before))
 
--- src/lib.rt:64:9
 same-length : tie.Need-same-length
 same-length c = search needs
 
--- src/lib.rt:64:9
 same-length-2 : tie.Need-same-length-2
 same-length-2 c = search needs
 
--- src/lib.rt:64:9
 returns : tie.Need-returns
 returns c =
     let v = c .before .before in
@@ -74,19 +65,15 @@ returns c =
     (slow-step (bank s) (s .args .hold-reference) (s .args .power-db .now) (s .args .power .now) (phase-of (s .args .bank .now) (s .args .bank-f .now) ∙ q .before .before .before .if1 .taken))
     (v .advance .ensures)
 
--- src/lib.rt:66:5
 advance-requires-2 : tie.Need-advance-requires-2
 advance-requires-2 c κs = headed _ _ _ _ (at1 (c .before .before .before .before .before))
 
--- src/lib.rt:56:1
 same-length-3 : tie.Need-same-length-3
 same-length-3 c = search needs
 
--- src/lib.rt:56:1
 same-length-4 : tie.Need-same-length-4
 same-length-4 c = search needs
 
--- src/lib.rt:56:1
 returns-2 : tie.Need-returns-2
 returns-2 c =
     let v = c .before .before in

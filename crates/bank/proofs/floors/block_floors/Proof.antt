@@ -1,15 +1,16 @@
-use mathlib.Core.Path.{_≡_, refl, sym, ap, subst, _∙_}
+-- `bank::floors::block_floors` meets its contract: each turn writes one block's median of the usable floors, which no turn has changed. Assumes nothing.
+use mathlib.Core.Path.{_≡_, refl, ap, _∙_}
 use mathlib.Core.List.{List}
-use Prim.Native.Nat.{ℕ, _+_, _-_, _*_, _/_, _≤_, _<_}
+use Prim.Native.Nat.{ℕ, _+_, _-_, _*_, _≤_}
 use native.Mathlib.Nat.{le-antisymm}
 use native.Mathlib.Omega.{arith}
-use lib.ListN.{length, getD, length-set}
-use lib.Ieee.{Float, nan}
+use lib.ListN.{length, length-set}
+use lib.Ieee.{Float}
 use borrow.Author.Needs.{needs}
 use Rattle.laws.specs.Lists.{part, splice, tab}
 use Rattle.laws.proofs.Lists.{width, length-part}
 use Rattle.laws.proofs.Tabs.{fill-begins, fill-next, length-tab}
-use Rattle.model.specs.Bank.{block, blocks, median}
+use Rattle.model.specs.Bank.{block, median}
 use Rattle.bank.proofs.Loops.{Fits, fits, block-done, usable-lent}
 use Rattle.bank.proofs.floors.block_floors.Statement.{statement}
 use Rattle.bank.proofs.floors.block_floors.Tie as tie
@@ -23,71 +24,56 @@ Inv-loop bank-f₀ bank n bs end i₀ bank-f i = (i ≤ bs) × (bank-f ≡ splic
 abbrev μ-loop : tie.MeasureT-loop
 μ-loop bank-f₀ bank n bs end i₀ bank-f i = bs - i
 
--- src/floors.rt:43:19
 fit : (s : tie.Start Inv-loop μ-loop) → Fits (s .args .bank .now) (s .args .bank-f .now) (s .args .n)
 fit s = fits (s .args .bank .now) (s .args .bank-f .now) (s .args .n) (s .pre .0) (s .pre .1)
 
 add-blocks : tie.Need-add-blocks Inv-loop μ-loop
 add-blocks c = search needs
 
--- src/floors.rt:44:15
 add-end : tie.Need-add-end Inv-loop μ-loop
 add-end c = search needs
 
--- src/floors.rt:46:5
 loop-holds : tie.Need-loop-holds Inv-loop μ-loop
 loop-holds c =
     let s = c .before .before in
     (search needs, fill-begins (4 * s .args .n) (s .args .bank-f .now) (floorOf (s .args .bank-f .now) (s .args .n)), refl)
 
--- src/floors.rt:47:47
 mul-block-median : tie.Need-mul-block-median Inv-loop μ-loop
 mul-block-median c = search needs
 
--- src/floors.rt:47:47
 sub-block-median : tie.Need-sub-block-median Inv-loop μ-loop
 sub-block-median c = search needs
 
--- src/floors.rt:47:47
 part-block-median-start : tie.Need-part-block-median-start Inv-loop μ-loop
 part-block-median-start c = search needs
 
--- src/floors.rt:47:47
 part-block-median-end : tie.Need-part-block-median-end Inv-loop μ-loop
 part-block-median-end c = search needs
 
--- src/floors.rt:47:13
 block-median-requires : tie.Need-block-median-requires Inv-loop μ-loop
 block-median-requires c κs =
     let l = c .before .before .before in
     let s = l .before .before .before in
     rw (width (s .args .n) (s .args .n)) (omega (arith, length-part (s .args .n) (s .args .n) (l .loop .bank-f) (omega (arith, l .loop .inv .2, fit s .long-f))))
 
--- src/floors.rt:48:16
 mul-bank-f : tie.Need-mul-bank-f Inv-loop μ-loop
 mul-bank-f c = search needs
 
--- src/floors.rt:48:16
 add-bank-f : tie.Need-add-bank-f Inv-loop μ-loop
 add-bank-f c = search needs
 
--- src/floors.rt:48:9
 mul-bank-f-2 : tie.Need-mul-bank-f-2 Inv-loop μ-loop
 mul-bank-f-2 c = search needs
 
--- src/floors.rt:48:9
 slice-write-bank-f : tie.Need-slice-write-bank-f Inv-loop μ-loop
 slice-write-bank-f c = search needs
 
--- src/floors.rt:49:9
 add-i : tie.Need-add-i Inv-loop μ-loop
 add-i c = search needs
 
--- src/floors.rt:46:5
 loop-less : tie.Need-loop-less Inv-loop μ-loop
 loop-less c = search needs
 
--- src/floors.rt:46:5
 loop-again : tie.Need-loop-again Inv-loop μ-loop
 loop-again c =
     let l = c .before .before .before .before in
@@ -102,11 +88,9 @@ loop-again c =
       length-set (l .loop .bank-f) _ _ ∙ l .loop .inv .2,
     )
 
--- src/floors.rt:39:1
 same-length : tie.Need-same-length Inv-loop μ-loop
 same-length c = search needs
 
--- src/floors.rt:39:1
 returns : tie.Need-returns Inv-loop μ-loop
 returns c =
     let l = c .before in

@@ -1,17 +1,18 @@
-use mathlib.Core.Path.{_≡_, refl, sym, ap, subst, _∙_}
+-- `bank::floors::raw_floors` meets its contract: each turn writes one channel's raw floor. Assumes nothing.
+use mathlib.Core.Path.{_≡_, ap, _∙_}
 use mathlib.Core.List.{List}
-use Prim.Native.Nat.{ℕ, _+_, _-_, _*_, _≤_, _<_}
+use Prim.Native.Nat.{ℕ, _+_, _-_, _*_, _≤_}
 use native.Mathlib.Nat.{le-antisymm}
 use native.Mathlib.Omega.{arith}
-use lib.ListN.{length, getD, length-set}
+use lib.ListN.{length, length-set}
 use lib.Ieee.{Float}
 use borrow.Author.Needs.{needs}
 use Rattle.laws.specs.Lists.{splice, tab}
 use Rattle.laws.proofs.Lists.{width}
-use Rattle.laws.proofs.Tabs.{fill-begins, fill-next}
+use Rattle.laws.proofs.Tabs.{fill-next}
 use Rattle.model.specs.Ring.{rawFloor}
 use Rattle.model.specs.Stores.{chanOf, chanPart, base}
-use Rattle.bank.proofs.Loops.{Fits, fits, lent, lent-long, raw-done}
+use Rattle.bank.proofs.Loops.{Fits, fits, lent, raw-done}
 use Rattle.bank.proofs.floors.raw_floors.Statement.{statement}
 use Rattle.bank.proofs.floors.raw_floors.Tie as tie
 
@@ -27,70 +28,54 @@ abbrev μ-loop : tie.MeasureT-loop
 fit : (s : tie.Start Inv-loop μ-loop) → Fits (s .args .bank .now) (s .args .bank-f .now) (s .args .n)
 fit s = fits (s .args .bank .now) (s .args .bank-f .now) (s .args .n) (s .pre .0) (s .pre .1)
 
--- src/floors.rt:16:21
 add-base : tie.Need-add-base Inv-loop μ-loop
 add-base c = search needs
 
--- src/floors.rt:16:16
 add-base-2 : tie.Need-add-base-2 Inv-loop μ-loop
 add-base-2 c = search needs
 
--- src/floors.rt:18:5
 loop-holds : tie.Need-loop-holds Inv-loop μ-loop
 loop-holds c = search needs
 
--- src/floors.rt:19:24
 mul-a : tie.Need-mul-a Inv-loop μ-loop
 mul-a c = search needs
 
--- src/floors.rt:19:17
 add-a : tie.Need-add-a Inv-loop μ-loop
 add-a c = search needs
 
--- src/floors.rt:20:17
 add-e : tie.Need-add-e Inv-loop μ-loop
 add-e c = search needs
 
--- src/floors.rt:21:50
 mul-raw-floor : tie.Need-mul-raw-floor Inv-loop μ-loop
 mul-raw-floor c = search needs
 
--- src/floors.rt:21:50
 sub-raw-floor : tie.Need-sub-raw-floor Inv-loop μ-loop
 sub-raw-floor c = search needs
 
--- src/floors.rt:21:50
 part-raw-floor-start : tie.Need-part-raw-floor-start Inv-loop μ-loop
 part-raw-floor-start c = search needs
 
--- src/floors.rt:21:50
 part-raw-floor-end : tie.Need-part-raw-floor-end Inv-loop μ-loop
 part-raw-floor-end c = search needs
 
--- src/floors.rt:21:21
 raw-floor-requires : tie.Need-raw-floor-requires Inv-loop μ-loop
 raw-floor-requires c κs =
     let l = c .before .before in
     let s = l .before .before .before in
     lent (s .args .bank .now) (s .args .bank-f .now) (s .args .n) (fit s) (l .loop .k) (c .before .loop-test .taken)
 
--- src/floors.rt:21:9
 mul-bank-f : tie.Need-mul-bank-f Inv-loop μ-loop
 mul-bank-f c = search needs
 
--- src/floors.rt:21:9
 slice-write-bank-f : tie.Need-slice-write-bank-f Inv-loop μ-loop
 slice-write-bank-f c = search needs
 
--- src/floors.rt:22:9
 add-k : tie.Need-add-k Inv-loop μ-loop
 add-k c = search needs
 
--- src/floors.rt:18:5
 loop-less : tie.Need-loop-less Inv-loop μ-loop
 loop-less c = search needs
 
--- src/floors.rt:18:5
 loop-again : tie.Need-loop-again Inv-loop μ-loop
 loop-again c =
     let l = c .before .before .before in
@@ -102,11 +87,9 @@ loop-again c =
       length-set (l .loop .bank-f) _ _ ∙ l .loop .inv .2,
     )
 
--- src/floors.rt:12:1
 same-length : tie.Need-same-length Inv-loop μ-loop
 same-length c = search needs
 
--- src/floors.rt:12:1
 returns : tie.Need-returns Inv-loop μ-loop
 returns c =
     let l = c .before in

@@ -1,17 +1,16 @@
-use mathlib.Core.Path.{_≡_, refl, sym, ap, subst, _∙_}
-use mathlib.Core.List.{List}
-use Prim.Native.Nat.{ℕ, _+_, _-_, _*_, _/_, _≤_, _<_}
+-- `bank::floors::rise_floors` meets its contract: each turn writes one channel's rise floor; no turn has changed what it reads. Assumes nothing.
+use mathlib.Core.Path.{_≡_, refl, ap, _∙_}
+use Prim.Native.Nat.{ℕ, _+_, _-_, _*_, _/_, _≤_}
 use native.Mathlib.Nat.{le-antisymm}
 use native.Mathlib.Omega.{arith}
 use lib.ListN.{length, getD, length-set}
-use lib.Ieee.{Float, nan}
 use borrow.Author.Needs.{needs}
-use Rattle.laws.specs.Lists.{part, splice, tab}
-use Rattle.laws.proofs.Lists.{width, length-part}
+use Rattle.laws.specs.Lists.{splice, tab}
+use Rattle.laws.proofs.Lists.{width}
 use Rattle.laws.proofs.Tabs.{fill-begins, fill-next, length-tab}
 use Rattle.model.specs.Ring.{since}
-use Rattle.model.specs.Bank.{blocks, riseFloor}
-use Rattle.model.specs.Stores.{chanOf, chanPart, base}
+use Rattle.model.specs.Bank.{riseFloor}
+use Rattle.model.specs.Stores.{base}
 use Rattle.bank.proofs.Loops.{Fits, fits, lent, riseAtOf, rise-done, rise-reads}
 use Rattle.bank.proofs.floors.rise_floors.Statement.{statement}
 use Rattle.bank.proofs.floors.rise_floors.Tie as tie
@@ -22,150 +21,116 @@ Inv-loop bank-f₀ bank n bs base k₀ bank-f k = (k ≤ n) × (bank-f ≡ splic
 abbrev μ-loop : tie.MeasureT-loop
 μ-loop bank-f₀ bank n bs base k₀ bank-f k = n - k
 
--- src/floors.rt:57:19
 fit : (s : tie.Start Inv-loop μ-loop) → Fits (s .args .bank .now) (s .args .bank-f .now) (s .args .n)
 fit s = fits (s .args .bank .now) (s .args .bank-f .now) (s .args .n) (s .pre .0) (s .pre .1)
 
 add-blocks : tie.Need-add-blocks Inv-loop μ-loop
 add-blocks c = search needs
 
--- src/floors.rt:58:16
 add-base : tie.Need-add-base Inv-loop μ-loop
 add-base c = search needs
 
--- src/floors.rt:60:5
 loop-holds : tie.Need-loop-holds Inv-loop μ-loop
 loop-holds c =
     let s = c .before .before in
     (search needs, fill-begins (3 * s .args .n) (s .args .bank-f .now) (riseAtOf (s .args .bank .now) (s .args .bank-f .now) (s .args .n)), refl)
 
--- src/floors.rt:62:24
 mul-a : tie.Need-mul-a Inv-loop μ-loop
 mul-a c = search needs
 
--- src/floors.rt:62:17
 add-a : tie.Need-add-a Inv-loop μ-loop
 add-a c = search needs
 
--- src/floors.rt:63:17
 add-e : tie.Need-add-e Inv-loop μ-loop
 add-e c = search needs
 
--- src/floors.rt:64:33
 mul-since : tie.Need-mul-since Inv-loop μ-loop
 mul-since c = search needs
 
--- src/floors.rt:64:33
 sub-since : tie.Need-sub-since Inv-loop μ-loop
 sub-since c = search needs
 
--- src/floors.rt:64:33
 part-since-start : tie.Need-part-since-start Inv-loop μ-loop
 part-since-start c = search needs
 
--- src/floors.rt:64:33
 part-since-end : tie.Need-part-since-end Inv-loop μ-loop
 part-since-end c = search needs
 
--- src/floors.rt:64:13
 since-requires : tie.Need-since-requires Inv-loop μ-loop
 since-requires c κs =
     let l = c .before .before in
     let s = l .before .before .before in
     lent (s .args .bank .now) (s .args .bank-f .now) (s .args .n) (fit s) (l .loop .k) (c .before .loop-test .taken)
 
--- src/floors.rt:65:46
 add-rise-floor : tie.Need-add-rise-floor Inv-loop μ-loop
 add-rise-floor c = search needs
 
--- src/floors.rt:65:39
 mul-rise-floor : tie.Need-mul-rise-floor Inv-loop μ-loop
 mul-rise-floor c = search needs
 
--- src/floors.rt:65:39
 slice-read-rise-floor : tie.Need-slice-read-rise-floor Inv-loop μ-loop
 slice-read-rise-floor c = search needs
 
--- src/floors.rt:65:61
 mul-rise-floor-2 : tie.Need-mul-rise-floor-2 Inv-loop μ-loop
 mul-rise-floor-2 c = search needs
 
--- src/floors.rt:65:61
 add-rise-floor-2 : tie.Need-add-rise-floor-2 Inv-loop μ-loop
 add-rise-floor-2 c = search needs
 
--- src/floors.rt:65:54
 mul-rise-floor-3 : tie.Need-mul-rise-floor-3 Inv-loop μ-loop
 mul-rise-floor-3 c = search needs
 
--- src/floors.rt:65:54
 slice-read-rise-floor-2 : tie.Need-slice-read-rise-floor-2 Inv-loop μ-loop
 slice-read-rise-floor-2 c = search needs
 
--- src/floors.rt:65:85
 add-rise-floor-3 : tie.Need-add-rise-floor-3 Inv-loop μ-loop
 add-rise-floor-3 c = search needs
 
--- src/floors.rt:65:80
 mul-rise-floor-4 : tie.Need-mul-rise-floor-4 Inv-loop μ-loop
 mul-rise-floor-4 c = search needs
 
--- src/floors.rt:65:80
 shared-slice-read-rise-floor : tie.Need-shared-slice-read-rise-floor Inv-loop μ-loop
 shared-slice-read-rise-floor c = search needs
 
--- src/floors.rt:65:100
 mul-rise-floor-5 : tie.Need-mul-rise-floor-5 Inv-loop μ-loop
 mul-rise-floor-5 c = search needs
 
--- src/floors.rt:65:100
 add-rise-floor-4 : tie.Need-add-rise-floor-4 Inv-loop μ-loop
 add-rise-floor-4 c = search needs
 
--- src/floors.rt:65:100
 add-rise-floor-5 : tie.Need-add-rise-floor-5 Inv-loop μ-loop
 add-rise-floor-5 c = search needs
 
--- src/floors.rt:65:93
 mul-rise-floor-6 : tie.Need-mul-rise-floor-6 Inv-loop μ-loop
 mul-rise-floor-6 c = search needs
 
--- src/floors.rt:65:93
 slice-read-rise-floor-3 : tie.Need-slice-read-rise-floor-3 Inv-loop μ-loop
 slice-read-rise-floor-3 c =
     let l = c .before .before .before .before .before .before .before in
     let s = l .before .before .before in
     omega (arith, l .loop .inv .2, fit s .long-f, fit s .few, c .before .before .before .before .before .before .loop-test .taken)
 
--- src/floors.rt:65:13
 rise-floor-requires : tie.Need-rise-floor-requires Inv-loop μ-loop
 rise-floor-requires c κs = search needs
 
--- src/floors.rt:66:16
 mul-bank-f : tie.Need-mul-bank-f Inv-loop μ-loop
 mul-bank-f c = search needs
 
--- src/floors.rt:66:16
 add-bank-f : tie.Need-add-bank-f Inv-loop μ-loop
 add-bank-f c = search needs
 
--- src/floors.rt:66:9
 mul-bank-f-2 : tie.Need-mul-bank-f-2 Inv-loop μ-loop
 mul-bank-f-2 c = search needs
 
--- src/floors.rt:66:9
 slice-write-bank-f : tie.Need-slice-write-bank-f Inv-loop μ-loop
 slice-write-bank-f c = search needs
 
--- src/floors.rt:67:9
 add-k : tie.Need-add-k Inv-loop μ-loop
 add-k c = search needs
 
--- src/floors.rt:60:5
 loop-less : tie.Need-loop-less Inv-loop μ-loop
 loop-less c = search needs
 
--- src/floors.rt:60:5
 loop-again : tie.Need-loop-again Inv-loop μ-loop
 loop-again c =
     let q = c .before .before .before .before .before in
@@ -184,11 +149,9 @@ loop-again c =
       length-set (l .loop .bank-f) _ _ ∙ l .loop .inv .2,
     )
 
--- src/floors.rt:53:1
 same-length : tie.Need-same-length Inv-loop μ-loop
 same-length c = search needs
 
--- src/floors.rt:53:1
 returns : tie.Need-returns Inv-loop μ-loop
 returns c =
     let l = c .before in

@@ -1,17 +1,18 @@
-use mathlib.Core.Path.{_≡_, refl, sym, ap, subst, _∙_}
+-- `bank::floors::usable_floors` meets its contract: each turn writes one channel's usable floor, worked out from its stored raw floor. Assumes nothing.
+use mathlib.Core.Path.{_≡_, refl, ap, _∙_}
 use mathlib.Core.List.{List}
-use Prim.Native.Nat.{ℕ, _+_, _-_, _*_, _≤_, _<_}
+use Prim.Native.Nat.{ℕ, _+_, _-_, _*_, _≤_}
 use native.Mathlib.Nat.{le-antisymm}
 use native.Mathlib.Omega.{arith}
-use lib.ListN.{length, getD, length-set}
+use lib.ListN.{length, length-set}
 use lib.Ieee.{Float, nan}
 use borrow.Author.Needs.{needs}
 use Rattle.laws.specs.Lists.{splice, tab}
 use Rattle.laws.proofs.Lists.{width}
 use Rattle.laws.proofs.Tabs.{fill-begins, fill-next}
-use Rattle.model.specs.Ring.{rawFloor, usableFloor}
+use Rattle.model.specs.Ring.{usableFloor}
 use Rattle.model.specs.Stores.{chanOf, chanPart, base}
-use Rattle.bank.proofs.Loops.{Fits, fits, lent, lent-long, usable-done, raw-at}
+use Rattle.bank.proofs.Loops.{Fits, fits, lent, usable-done, raw-at}
 use Rattle.bank.proofs.floors.usable_floors.Statement.{statement}
 use Rattle.bank.proofs.floors.usable_floors.Tie as tie
 
@@ -24,60 +25,47 @@ Inv-loop bank-f₀ bank n base k₀ bank-f k = (k ≤ n) × (bank-f ≡ splice n
 abbrev μ-loop : tie.MeasureT-loop
 μ-loop bank-f₀ bank n base k₀ bank-f k = n - k
 
--- src/floors.rt:31:21
 fit : (s : tie.Start Inv-loop μ-loop) → Fits (s .args .bank .now) (s .args .bank-f .now) (s .args .n)
 fit s = fits (s .args .bank .now) (s .args .bank-f .now) (s .args .n) (s .pre .0 .0) (s .pre .0 .1)
 
 add-base : tie.Need-add-base Inv-loop μ-loop
 add-base c = search needs
 
--- src/floors.rt:31:16
 add-base-2 : tie.Need-add-base-2 Inv-loop μ-loop
 add-base-2 c = search needs
 
--- src/floors.rt:33:5
 loop-holds : tie.Need-loop-holds Inv-loop μ-loop
 loop-holds c =
     let s = c .before .before in
     (search needs, fill-begins (s .args .n) (s .args .bank-f .now) (usableOf (s .args .bank .now) (s .args .n)), refl)
 
--- src/floors.rt:34:24
 mul-a : tie.Need-mul-a Inv-loop μ-loop
 mul-a c = search needs
 
--- src/floors.rt:34:17
 add-a : tie.Need-add-a Inv-loop μ-loop
 add-a c = search needs
 
--- src/floors.rt:35:17
 add-e : tie.Need-add-e Inv-loop μ-loop
 add-e c = search needs
 
--- src/floors.rt:36:19
 mul-raw : tie.Need-mul-raw Inv-loop μ-loop
 mul-raw c = search needs
 
--- src/floors.rt:36:19
 slice-read-raw : tie.Need-slice-read-raw Inv-loop μ-loop
 slice-read-raw c = search needs
 
--- src/floors.rt:37:57
 mul-usable-floor : tie.Need-mul-usable-floor Inv-loop μ-loop
 mul-usable-floor c = search needs
 
--- src/floors.rt:37:57
 sub-usable-floor : tie.Need-sub-usable-floor Inv-loop μ-loop
 sub-usable-floor c = search needs
 
--- src/floors.rt:37:57
 part-usable-floor-start : tie.Need-part-usable-floor-start Inv-loop μ-loop
 part-usable-floor-start c = search needs
 
--- src/floors.rt:37:57
 part-usable-floor-end : tie.Need-part-usable-floor-end Inv-loop μ-loop
 part-usable-floor-end c = search needs
 
--- src/floors.rt:37:25
 usable-floor-requires : tie.Need-usable-floor-requires Inv-loop μ-loop
 usable-floor-requires c κs =
     let l = c .before .before .before in
@@ -89,27 +77,21 @@ usable-floor-requires c κs =
       rw (width (base (s .args .n) + 533 * l .loop .k) 533) (raw-at u f (s .pre .0 .0) (s .args .n) (s .pre .0 .1) (s .pre .1) (l .loop .k) (l .loop .bank-f) (tab (l .loop .k) (usableOf u (s .args .n))) (l .loop .k) nan h (l .loop .inv .1)),
     )
 
--- src/floors.rt:37:16
 add-bank-f : tie.Need-add-bank-f Inv-loop μ-loop
 add-bank-f c = search needs
 
--- src/floors.rt:37:9
 mul-bank-f : tie.Need-mul-bank-f Inv-loop μ-loop
 mul-bank-f c = search needs
 
--- src/floors.rt:37:9
 slice-write-bank-f : tie.Need-slice-write-bank-f Inv-loop μ-loop
 slice-write-bank-f c = search needs
 
--- src/floors.rt:38:9
 add-k : tie.Need-add-k Inv-loop μ-loop
 add-k c = search needs
 
--- src/floors.rt:33:5
 loop-less : tie.Need-loop-less Inv-loop μ-loop
 loop-less c = search needs
 
--- src/floors.rt:33:5
 loop-again : tie.Need-loop-again Inv-loop μ-loop
 loop-again c =
     let l = c .before .before .before .before in
@@ -121,11 +103,9 @@ loop-again c =
       length-set (l .loop .bank-f) _ _ ∙ l .loop .inv .2,
     )
 
--- src/floors.rt:26:1
 same-length : tie.Need-same-length Inv-loop μ-loop
 same-length c = search needs
 
--- src/floors.rt:26:1
 returns : tie.Need-returns Inv-loop μ-loop
 returns c =
     let l = c .before in

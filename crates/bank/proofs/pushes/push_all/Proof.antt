@@ -1,15 +1,14 @@
-use mathlib.Core.Path.{_≡_, refl, sym, ap, subst, _∙_}
-use mathlib.Core.List.{List}
-use Prim.Native.Nat.{ℕ, _+_, _-_, _*_, _/_, _≤_, _<_}
+-- `bank::pushes::push_all` meets its contract: each turn replaces one channel by its push. Assumes nothing.
+use mathlib.Core.Path.{_≡_, refl, ap, _∙_}
+use Prim.Native.Nat.{ℕ, _-_, _*_, _≤_}
 use native.Mathlib.Nat.{le-antisymm}
 use native.Mathlib.Omega.{arith}
-use lib.ListN.{length, getD, length-set}
-use lib.Ieee.{Float, nan}
+use lib.ListN.{length}
 use borrow.Author.Needs.{needs}
 use Rattle.laws.specs.Lists.{splice, tab, joined}
 use Rattle.laws.proofs.Tabs.{parts-begin}
 use Rattle.model.specs.Stores.{base}
-use Rattle.bank.proofs.Loops.{Fits, fits, pushedOf, turn-asks, turn-done, turn-long, push-done}
+use Rattle.bank.proofs.Loops.{Fits, fits, pushedOf, turn-asks, turn-done, push-done}
 use Rattle.bank.proofs.pushes.push_all.Statement.{statement}
 use Rattle.bank.proofs.pushes.push_all.Tie as tie
 
@@ -19,53 +18,42 @@ Inv-loop bank₀ bank-f power-db n a k₀ bank k = (k ≤ n) × (bank ≡ splice
 abbrev μ-loop : tie.MeasureT-loop
 μ-loop bank₀ bank-f power-db n a k₀ bank k = n - k
 
--- src/pushes.rt:29:21
 fit : (s : tie.Start Inv-loop μ-loop) → Fits (s .args .bank .now) (s .args .bank-f .now) (length (s .args .power-db .now))
 fit s = fits (s .args .bank .now) (s .args .bank-f .now) (length (s .args .power-db .now)) (s .pre .0) (s .pre .1)
 
 add-base : tie.Need-add-base Inv-loop μ-loop
 add-base c = search needs
 
--- src/pushes.rt:29:16
 add-base-2 : tie.Need-add-base-2 Inv-loop μ-loop
 add-base-2 c = search needs
 
--- src/pushes.rt:31:5
 loop-holds : tie.Need-loop-holds Inv-loop μ-loop
 loop-holds c =
     let s = c .before .before .before in
     let db = s .args .power-db .now in
     (search needs, parts-begin (base (length db)) 533 (s .args .bank .now) (pushedOf (s .args .bank .now) db (length db)), refl)
 
--- src/pushes.rt:32:31
 add-quiet : tie.Need-add-quiet Inv-loop μ-loop
 add-quiet c = search needs
 
--- src/pushes.rt:32:26
 mul-quiet : tie.Need-mul-quiet Inv-loop μ-loop
 mul-quiet c = search needs
 
--- src/pushes.rt:32:26
 slice-read-quiet : tie.Need-slice-read-quiet Inv-loop μ-loop
 slice-read-quiet c = search needs
 
--- src/pushes.rt:33:30
 mul-push-at : tie.Need-mul-push-at Inv-loop μ-loop
 mul-push-at c = search needs
 
--- src/pushes.rt:33:23
 add-push-at : tie.Need-add-push-at Inv-loop μ-loop
 add-push-at c = search needs
 
--- src/pushes.rt:33:39
 mul-push-at-2 : tie.Need-mul-push-at-2 Inv-loop μ-loop
 mul-push-at-2 c = search needs
 
--- src/pushes.rt:33:39
 shared-slice-read-push-at : tie.Need-shared-slice-read-push-at Inv-loop μ-loop
 shared-slice-read-push-at c = search needs
 
--- src/pushes.rt:33:9
 push-at-requires : tie.Need-push-at-requires Inv-loop μ-loop
 push-at-requires c κs =
     let l = c .before .before .before .before in
@@ -73,15 +61,12 @@ push-at-requires c κs =
     let db = s .args .power-db .now in
     turn-asks (s .args .bank .now) (s .args .bank-f .now) (length db) (fit s) db (l .loop .k) (c .before .before .before .loop-test .taken) (l .loop .bank) (l .loop .inv .1)
 
--- src/pushes.rt:34:9
 add-k : tie.Need-add-k Inv-loop μ-loop
 add-k c = search needs
 
--- src/pushes.rt:31:5
 loop-less : tie.Need-loop-less Inv-loop μ-loop
 loop-less c = search needs
 
--- src/pushes.rt:31:5
 loop-again : tie.Need-loop-again Inv-loop μ-loop
 loop-again c =
     let p = c .before .before in
@@ -92,11 +77,9 @@ loop-again c =
     let d = turn-done (s .args .bank .now) (s .args .bank-f .now) (length db) (fit s) db (l .loop .k) h (l .loop .bank) (l .loop .inv .1) (p .push-at .last .0) (p .push-at .ensures) in
     (omega arith, d, search needs)
 
--- src/pushes.rt:24:1
 same-length : tie.Need-same-length Inv-loop μ-loop
 same-length c = search needs
 
--- src/pushes.rt:24:1
 returns : tie.Need-returns Inv-loop μ-loop
 returns c =
     let l = c .before in

@@ -1,3 +1,4 @@
+-- `bank::pushes::push_at` meets its contract: the ring's push, in the channel's part of the store. Assumes nothing.
 use native.Mathlib.Omega.{arith}
 use borrow.Author.Needs.{needs}
 use Rattle.laws.proofs.Lists.{width, length-part}
@@ -5,42 +6,33 @@ use Rattle.ring.proofs.Floats.{bin-below}
 use Rattle.bank.proofs.pushes.push_at.Statement.{statement}
 use Rattle.bank.proofs.pushes.push_at.Tie as tie
 
--- src/pushes.rt:18:9
 bin-index-requires : tie.Need-bin-index-requires
 bin-index-requires c κs = search needs
 
--- src/pushes.rt:19:13
 add-e : tie.Need-add-e
 add-e c = search needs
 
--- src/pushes.rt:20:25
 mul-push : tie.Need-mul-push
 mul-push c = search needs
 
--- src/pushes.rt:20:25
 sub-push : tie.Need-sub-push
 sub-push c = search needs
 
--- src/pushes.rt:20:25
 part-push-start : tie.Need-part-push-start
 part-push-start c = search needs
 
--- src/pushes.rt:20:25
 part-push-end : tie.Need-part-push-end
 part-push-end c = search needs
 
--- src/pushes.rt:20:5
 push-requires : tie.Need-push-requires
 push-requires c κs =
     let s = c .before .before .before in
     let b = c .before .bin-index .ensures in
     rw (width (s .args .a) 533) ((length-part (s .args .a) 533 (s .args .bank .now) (s .pre .0), s .pre .1), omega (arith, b, bin-below (s .args .p)))
 
--- src/pushes.rt:13:1
 same-length : tie.Need-same-length
 same-length c = search needs
 
--- src/pushes.rt:13:1
 returns : tie.Need-returns
 returns c =
     let u = c .before .before in

@@ -1,5 +1,6 @@
-use mathlib.Core.Path.{_≡_, refl}
-use Prim.Native.Nat.{ℕ, _+_, _*_}
+-- `bank::pushes::take_seeds` meets its contract: the seeds' step, in the parts that hold the counts and the sums. Assumes nothing.
+use mathlib.Core.Path.{refl}
+use Prim.Native.Nat.{_+_, _*_}
 use lib.ListN.{length}
 use borrow.Author.Needs.{needs}
 use Rattle.laws.proofs.Lists.{width}
@@ -8,55 +9,42 @@ use Rattle.bank.proofs.Loops.{seeds-ask, seeds-done}
 use Rattle.bank.proofs.pushes.take_seeds.Statement.{statement}
 use Rattle.bank.proofs.pushes.take_seeds.Tie as tie
 
--- src/pushes.rt:44:19
 add-blocks : tie.Need-add-blocks
 add-blocks c = search needs
 
--- src/pushes.rt:45:16
 add-base : tie.Need-add-base
 add-base c = search needs
 
--- src/pushes.rt:46:13
 mul-a : tie.Need-mul-a
 mul-a c = search needs
 
--- src/pushes.rt:46:13
 add-a : tie.Need-add-a
 add-a c = search needs
 
--- src/pushes.rt:47:13
 add-e : tie.Need-add-e
 add-e c = search needs
 
--- src/pushes.rt:48:31
 sub-seed-blocks : tie.Need-sub-seed-blocks
 sub-seed-blocks c = search needs
 
--- src/pushes.rt:48:31
 part-seed-blocks-start : tie.Need-part-seed-blocks-start
 part-seed-blocks-start c = search needs
 
--- src/pushes.rt:48:31
 part-seed-blocks-end : tie.Need-part-seed-blocks-end
 part-seed-blocks-end c = search needs
 
--- src/pushes.rt:48:51
 mul-seed-blocks : tie.Need-mul-seed-blocks
 mul-seed-blocks c = search needs
 
--- src/pushes.rt:48:51
 sub-seed-blocks-2 : tie.Need-sub-seed-blocks-2
 sub-seed-blocks-2 c = search needs
 
--- src/pushes.rt:48:51
 part-seed-blocks-start-2 : tie.Need-part-seed-blocks-start-2
 part-seed-blocks-start-2 c = search needs
 
--- src/pushes.rt:48:51
 part-seed-blocks-end-2 : tie.Need-part-seed-blocks-end-2
 part-seed-blocks-end-2 c = search needs
 
--- src/pushes.rt:48:5
 seed-blocks-requires : tie.Need-seed-blocks-requires
 seed-blocks-requires c κs =
     let s = c .before .before .before .before .before in
@@ -64,15 +52,12 @@ seed-blocks-requires c κs =
     let B = blocks (length db) in
     rw (width 3 B, width (4 * length db + B) B) (seeds-ask (s .args .bank .now) (s .args .bank-f .now) (s .pre .0) (length db) (s .pre .1) db refl)
 
--- src/pushes.rt:39:1
 same-length : tie.Need-same-length
 same-length c = search needs
 
--- src/pushes.rt:39:1
 same-length-2 : tie.Need-same-length-2
 same-length-2 c = search needs
 
--- src/pushes.rt:39:1
 returns : tie.Need-returns
 returns c =
     let q = c .before .before .before .before in

@@ -1,0 +1,50 @@
+// What a store and an answer are compared by.
+use crate::list::after;
+use crate::list::double_at;
+use model::Reading;
+use std::num::wrapping_add_u64;
+
+pub fn one(is_different: bool) -> u64 {
+    if is_different { 1 } else { 0 }
+}
+
+// NaNs are equal, and so are zeros of either sign.
+pub fn same(a: f64, b: f64) -> bool {
+    if a != a { b != b } else { a == b }
+}
+
+// Three times the sum so far and the next word: each place has a weight of its own.
+fn summed(sum: u64, word: u16) -> u64 {
+    wrapping_add_u64(
+        wrapping_add_u64(sum, sum),
+        wrapping_add_u64(sum, word as u64),
+    )
+}
+
+pub fn sum_of(words: &[u16]) -> u64 {
+    let mut sum = 0;
+    for i in 0..words.len() {
+        sum = summed(sum, words[i]);
+    }
+    sum
+}
+
+// How many floats differ from those of the list.
+pub fn differing(list: &[u8], at: usize, floats: &[f64]) -> u64 {
+    let mut count = 0;
+    for i in 0..floats.len() {
+        count = wrapping_add_u64(
+            count,
+            one(!same(floats[i], double_at(list, after(at, i * 8)))),
+        );
+    }
+    count
+}
+
+// 1 if a reading is not the one that is due.
+pub fn reading_differs(got: Reading, refusal: u16, value: f64) -> u64 {
+    match got {
+        Reading::Value(x) => one(refusal != 0 || !same(x, value)),
+        Reading::Refused(r) => one(r != refusal),
+    }
+}

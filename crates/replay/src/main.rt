@@ -1,0 +1,47 @@
+// Replays a kept list of calls of the bank and compares what floor.rs answered to them; tests/compare/README.md says how the list is made.
+mod compare;
+mod hop;
+mod list;
+mod records;
+
+use records::MOST;
+use records::MOST_F_LEN;
+use records::MOST_LEN;
+use records::Replay;
+
+// The records start behind the tables.
+const RECORDS: usize = 3072;
+
+const MOST_BYTES: usize = 400000;
+
+// A record takes two bytes or more, so there are no more turns than bytes.
+fn replay_list(list: &[u8]) -> Replay {
+    let mut bank = [0u16; MOST_LEN];
+    let mut bank_f = [0.0f64; MOST_F_LEN];
+    let mut db = [0.0f64; MOST];
+    let mut power = [0.0f32; MOST];
+    let mut r = Replay {
+        at: RECORDS,
+        n: 0,
+        is_on: true,
+        records: 0,
+        differences: 0,
+    };
+    let mut turns = list.len();
+    while turns > 0 && r.is_on {
+        r = records::replay_turn(list, r, &mut bank, &mut bank_f, &mut db, &mut power);
+        turns -= 1;
+    }
+    r
+}
+
+fn main() {
+    let mut buffer = [0u8; MOST_BYTES];
+    let bytes = io::read_full(0, &mut buffer);
+    let r = replay_list(&buffer[..bytes]);
+    io::write_all(1, b"replayed ");
+    io::print_decimal(1, r.records);
+    io::write_all(1, b" records, ");
+    io::print_decimal(1, r.differences);
+    io::write_all(1, b" differences\n");
+}
