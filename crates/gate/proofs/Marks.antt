@@ -21,14 +21,14 @@ use Rattle.model.specs.Windows.{anyRises}
 use Rattle.model.specs.Gate.{Gate, levelOf, earlyRise, thresholdAt, windowRise, dropAt, riseBytes, dropBytes}
 use Rattle.model.specs.GateStores.{gateOf}
 use Rattle.gate_store.specs.GoodGate.{GateReady}
-use Rattle.gate.proofs.Lengths.{headed}
+use Rattle.gate.proofs.Lengths.{smooth-within}
 
 -- ---- one channel
 
 pub smooth-at : (u : List ℕ) (f : List Float) (k : ℕ) → GateReady u f → k < getD u 0 0 → getD f k nan ≡ getD (gateOf u f .smooth) k f0
 unfolding gateOf
 smooth-at u f k r h =
-    getD-any f k nan f0 (omega (arith, headed u f r .smooth))
+    getD-any f k nan f0 (omega (arith, smooth-within u f r))
     ∙ sym (getD-part 0 (getD u 0 0) f k f0 h ∙ ap (λ (i : ℕ). getD f i f0) (zero-add k))
 
 module _ (u : List ℕ) (f : List Float) (b : FloorBank) (k : ℕ) (r : GateReady u f) (h : k < getD u 0 0) where
@@ -48,14 +48,6 @@ module _ (u : List ℕ) (f : List Float) (b : FloorBank) (k : ℕ) (r : GateRead
       ap (λ (z : Float). anyRises (getD u 0 0) z k (gateOf u f .looks)) (s ∙ ap₂ (λ (v w : Float). ladder (add binary64 v w)) p q)
 
 -- ---- all channels
-
-pub n-of : (u : List ℕ) (f : List Float) → gateOf u f .n ≡ getD u 0 0
-unfolding gateOf
-n-of u f = refl
-
-pub started-of : (u : List ℕ) (f : List Float) → gateOf u f .started ≡ getD u 1 0
-unfolding gateOf
-started-of u f = refl
 
 module _ (g : Gate) (b : FloorBank) (n : ℕ) (l : List ℕ) (e : n ≡ g .n) where
   module _ (z : g .started ≡ 0 → ⊥) where

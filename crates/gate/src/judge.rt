@@ -1,46 +1,27 @@
 // What the gate judges of each channel: rises and drops.
 ghost use mathlib.Core.Path.{_≡_};
 ghost use mathlib.Core.Bool.{not, _&&_, _||_};
-ghost use Prim.Native.Nat.{_+_, _*_, _<_, _≤_};
+ghost use Prim.Native.Nat.{_<_};
 ghost use lib.Dec.{eqb};
 ghost use lib.ListN.{length, getD};
 ghost use lib.Ieee.{binary64, add, le, lt};
 ghost use Rattle.laws.specs.Lists.{tab};
-ghost use Rattle.model.specs.Numbers.{f0};
 ghost use Rattle.model.specs.Stores.{bankOf};
 ghost use Rattle.model.specs.Readings.{effectiveAt};
 ghost use Rattle.model.specs.Windows.{anyRises};
-ghost use Rattle.model.specs.Gate.{levelOf, earlyRise, windowRise, dropAt};
+ghost use Rattle.model.specs.Gate.{levelOf, earlyRise, windowRise};
 ghost use Rattle.model.specs.GateStores.{gateOf};
 ghost use Rattle.gate_store.specs.GoodGate.{GateReady};
-ghost use Rattle.gate.specs.Paired.{Paired, Marked, cursorOf};
+ghost use Rattle.gate.specs.Paired.{Paired, Marked};
+use crate::triples::{cursor, wide};
 
 const ABSENT: u16 = 65535;
-
-fn wide(x: u16) -> usize
-    ensures { λ r. ⌜ r ≡ x ⌝ }
-{
-    x as usize
-}
 
 // A level as the store has it, in dB.
 fn level(x: u16) -> f64
     ensures { λ r. ⌜ r ≡ levelOf x ⌝ }
 {
     ((x as f64) - 800.0) / 8.0
-}
-
-// The cursor of length j, as the store has it.
-pub fn cursor(gate: &[u16], j: usize) -> windows::Cursor
-    requires { ⌜ 6 + 3 * j + 2 < length (now gate) ⌝ }
-    ensures { λ r. ⌜ r ≡ cursorOf (now (gate .entry)) j ⌝ }
-{
-    let at = 6 + 3 * j;
-    windows::Cursor {
-        m: wide(gate[at]),
-        at: wide(gate[at + 1]),
-        filled: wide(gate[at + 2]),
-    }
 }
 
 pub fn early_rise(early: u16, smoothed: f64, effective: f64) -> bool
@@ -65,7 +46,7 @@ fn window_rise(gate: &[u16], gate_f: &[f64], k: usize, threshold: f64) -> bool
         let c = cursor(gate, j);
         let m = c.m;
         let e = at + (2 * m * n + n + n);
-        if crate::x_rises::look_rises(&gate_f[at..e], n, c, k, threshold) {
+        if windows::rises::look_rises(&gate_f[at..e], n, c, k, threshold) {
             return true;
         }
         at = e;
@@ -90,7 +71,7 @@ fn rise_at(
         return true;
     }
     let floor = readings::rise_at(bank, bank_f, k);
-    let threshold = crate::x_ladder::ladder(floor + level(gate[2]));
+    let threshold = ladder::ladder(floor + level(gate[2]));
     window_rise(gate, gate_f, k, threshold)
 }
 

@@ -14,8 +14,9 @@ use Rattle.model.specs.GateStores.{gateOf}
 use Rattle.block.proofs.Counts.{flag}
 use Rattle.block.proofs.Fills.{Filled, begins, turns, done}
 use Rattle.readings.proofs.Places.{from-ready}
-use Rattle.gate.proofs.Lengths.{headed}
-use Rattle.gate.proofs.Marks.{drop-is, n-of, started-of, rises-marked, drops-marked}
+use Rattle.gate.proofs.Lengths.{smooth-within}
+use Rattle.gate_store.proofs.Goods.{n-of, started-of}
+use Rattle.gate.proofs.Marks.{drop-is, rises-marked, drops-marked}
 use borrow.Author.Needs.{needs}
 use Rattle.gate.proofs.judge.mark.Statement.{statement}
 use Rattle.gate.proofs.judge.mark.Tie as tie
@@ -67,7 +68,7 @@ mul-drop-at c = search needs
 shared-slice-read-drop-at-2 : tie.Need-shared-slice-read-drop-at-2 Inv-loop μ-loop
 shared-slice-read-drop-at-2 c = let i = c .before .before .before .before in
     let s = start (i .before) in
-    omega (arith, headed (s .args .gate .now) (s .args .gate-f .now) (s .pre .0 .0 .gate) .smooth, below i)
+    omega (arith, smooth-within (s .args .gate .now) (s .args .gate-f .now) (s .pre .0 .0 .gate), below i)
 
 drop-at-requires : tie.Need-drop-at-requires Inv-loop μ-loop
 drop-at-requires c κs = search needs

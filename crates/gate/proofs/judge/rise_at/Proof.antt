@@ -6,7 +6,7 @@ use Rattle.model.specs.Stores.{bankOf}
 use Rattle.model.specs.Gate.{earlyRise, windowRise}
 use Rattle.model.specs.GateStores.{gateOf}
 use Rattle.readings.proofs.Places.{from-ready}
-use Rattle.gate.proofs.Lengths.{headed}
+use Rattle.gate.proofs.Lengths.{smooth-within}
 use Rattle.gate.proofs.Marks.{early-is, window-is}
 use borrow.Author.Needs.{needs}
 use Rattle.gate.proofs.judge.rise_at.Statement.{statement}
@@ -20,7 +20,7 @@ mul-early-rise c = search needs
 
 shared-slice-read-early-rise-2 : tie.Need-shared-slice-read-early-rise-2
 shared-slice-read-early-rise-2 c = let s = c .before .before .before .before .before .before in
-    omega (arith, headed (s .args .gate .now) (s .args .gate-f .now) (s .pre .0 .gate) .smooth, s .pre .1)
+    omega (arith, smooth-within (s .args .gate .now) (s .args .gate-f .now) (s .pre .0 .gate), s .pre .1)
 
 early-rise-requires : tie.Need-early-rise-requires
 early-rise-requires c κs = search needs

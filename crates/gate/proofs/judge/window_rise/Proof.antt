@@ -12,7 +12,8 @@ use Rattle.laws.proofs.Tests.{any-more, any-at, any-done}
 use Rattle.model.specs.Windows.{lookRises}
 use Rattle.model.specs.GateStores.{mAt, lookSize}
 use Rattle.gate_store.proofs.Encode.{startAt}
-use Rattle.gate.proofs.Lengths.{Headed, headed, lent-within, lent-fits, lent-looks, small-length, risesAt, any-is}
+use Rattle.gate_store.proofs.Goods.{GateSizes, sizes}
+use Rattle.gate.proofs.Lengths.{lent-within, lent-fits, lent-looks, small-length, risesAt, any-is}
 use borrow.Author.Needs.{needs}
 use Rattle.gate.proofs.judge.window_rise.Statement.{statement}
 use Rattle.gate.proofs.judge.window_rise.Tie as tie
@@ -43,8 +44,8 @@ n-is l = l .before .before .before .wide .ensures
 lengths-are : (l : tie.At-loop Inv-loop μ-loop) → l .before .wide2 .result ≡ getD (U l) 5 0
 lengths-are l = l .before .wide2 .ensures
 
-head : (s : tie.Start Inv-loop μ-loop) → Headed (s .args .gate .now) (s .args .gate-f .now)
-head s = headed (s .args .gate .now) (s .args .gate-f .now) (s .pre .0)
+head : (s : tie.Start Inv-loop μ-loop) → GateSizes (s .args .gate .now)
+head s = sizes (s .args .gate .now) (s .args .gate-f .now) (s .pre .0)
 
 more : (c : tie.In-loop Inv-loop μ-loop) → c .before .loop .j < getD (U (c .before)) 5 0
 more c = omega (arith, c .loop-test .taken, lengths-are (c .before))
@@ -55,7 +56,7 @@ m-is c = ap (λ x. x .m) (c .cursor .ensures)
 within : (c : tie.After-cursor Inv-loop μ-loop)
     → c .before .before .loop .at + (2 * c .cursor .result .m * N (c .before .before) + N (c .before .before) + N (c .before .before)) ≤ length (F (c .before .before))
 within c = let l = c .before .before in
-    lent-within (U l) (F l) (start l .pre .0) (l .loop .j) (more (c .before)) (N l) (c .cursor .result .m) (l .loop .at) (n-is l) (m-is c) (l .loop .inv .1)
+    lent-within (U l) (F l) (start l .pre .0) (l .loop .j) (more (c .before)) (F l) refl refl (N l) (c .cursor .result .m) (l .loop .at) (n-is l) (m-is c) (l .loop .inv .1)
 
 small : (c : tie.After-cursor Inv-loop μ-loop) → c .cursor .result .m ≤ 375
 small c = let l = c .before .before in
@@ -67,7 +68,7 @@ answer : (c : tie.After-look-rises Inv-loop μ-loop)
 answer c = let a = c .before .before in
     let l = a .before .before in
     c .look-rises .ensures
-    ∙ (λ i. lookRises (n-is l i) (start l .args .threshold) (start l .args .k) (lent-looks (U l) (F l) (start l .pre .0) (l .loop .j) (more (a .before)) (N l) (l .loop .at) (a .cursor .result) (n-is l) (a .cursor .ensures) (l .loop .inv .1) i))
+    ∙ (λ i. lookRises (n-is l i) (start l .args .threshold) (start l .args .k) (lent-looks (U l) (F l) (start l .pre .0) (l .loop .j) (more (a .before)) (F l) refl refl (N l) (l .loop .at) (a .cursor .result) (n-is l) (a .cursor .ensures) (l .loop .inv .1) i))
 
 shared-slice-read-wide : tie.Need-shared-slice-read-wide Inv-loop μ-loop
 shared-slice-read-wide c = omega (arith, head (c .before .before .before))
@@ -118,7 +119,7 @@ part-look-rises-end c = omega (arith, within c)
 look-rises-requires : tie.Need-look-rises-requires Inv-loop μ-loop
 look-rises-requires c κs = let a = c .before in
     let l = a .before .before in
-    (lent-fits (U l) (F l) (start l .pre .0) (l .loop .j) (more (a .before)) (N l) (a .cursor .result .m) (l .loop .at) (n-is l) (m-is a) (l .loop .inv .1), omega (arith, n-is l, start l .pre .1))
+    (lent-fits (U l) (F l) (start l .pre .0) (l .loop .j) (more (a .before)) (F l) refl refl (N l) (a .cursor .result .m) (l .loop .at) (n-is l) (m-is a) (l .loop .inv .1), omega (arith, n-is l, start l .pre .1))
 
 returns : tie.Need-returns Inv-loop μ-loop
 returns c = let q = c .before in

@@ -1,7 +1,7 @@
--- `gate::judge::cursor` meets its contract. Assumes nothing.
+-- `gate::triples::cursor` meets its contract. Assumes nothing.
 use borrow.Author.Needs.{needs}
-use Rattle.gate.proofs.judge.cursor.Statement.{statement}
-use Rattle.gate.proofs.judge.cursor.Tie as tie
+use Rattle.gate.proofs.triples.cursor.Statement.{statement}
+use Rattle.gate.proofs.triples.cursor.Tie as tie
 
 mul-at : tie.Need-mul-at
 mul-at c = search needs
