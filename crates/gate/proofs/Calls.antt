@@ -32,6 +32,12 @@ use Rattle.gate.proofs.Stages.{held-ready, held-gate}
 below-n : (k n : ℕ) → first (not (ltb k n)) 7 0 ≡ 0 → k < n
 below-n k n e = ltb-true k n (not-false (ltb k n) (passed (not (ltb k n)) 7 0 (omega arith) e .0))
 
+-- a smoothed dB that is not refused
+pub readable-gate : (u : List ℕ) (f : List Float) (k : ℕ) → smoothedRefusal u f k ≡ 0 → GateReady u f × (k < getD u 0 0)
+readable-gate u f k e =
+    let a = neither (gateRefusal u f) _ e in
+    (gate-ready u f (a .0), below-n k (getD u 0 0) (a .1))
+
 -- a refusal leaves the marks
 unmarked : (x : ℕ) (g : Gate) (b : FloorBank) (rise drop : List ℕ) → (x ≡ 0 → ⊥) → (rise, drop) ≡ marksOf x g b rise drop
 unmarked zero g b rise drop z = absurd (z refl)
@@ -45,11 +51,6 @@ module _ (bu : List ℕ) (bf : List Float) (gu : List ℕ) (gf : List Float) whe
       let b = neither (gateRefusal gu gf) _ (a .1) in
       let c = passed (differ (getD bu 0 0) (getD gu 0 0)) 8 0 (omega arith) (b .1) in
       record { bank = ready bu bf (a .0); gate = gate-ready gu gf (b .0); same = same-of (getD bu 0 0) (getD gu 0 0) (c .0) }
-
-  pub readable-gate : (k : ℕ) → smoothedRefusal gu gf k ≡ 0 → GateReady gu gf × (k < getD gu 0 0)
-  readable-gate k e =
-      let a = neither (gateRefusal gu gf) _ e in
-      (gate-ready gu gf (a .0), below-n k (getD gu 0 0) (a .1))
 
   pub readable-pair : (k : ℕ) → earlyRefusal bu bf gu gf k ≡ 0 → Paired bu bf gu gf × (k < getD gu 0 0)
   readable-pair k e =

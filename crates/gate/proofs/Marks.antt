@@ -7,7 +7,8 @@ use native.Mathlib.Nat.{zero-add}
 use native.Mathlib.Omega.{arith}
 use lib.Dec.{eqb}
 use lib.ListN.{length, getD}
-use lib.Ieee.{Float, nan, binary64, add, le, lt}
+use lib.IntN.{pos}
+use lib.Ieee.{Float, nan, binary64, add, le, lt, ofBits, ofInt}
 use borrow.Author.Tests.{eq-eqb, ne-eqb}
 use Rattle.laws.specs.Lists.{part, tab, one}
 use Rattle.laws.proofs.Lists.{getD-part}
@@ -46,6 +47,23 @@ module _ (u : List ℕ) (f : List Float) (b : FloorBank) (k : ℕ) (r : GateRead
   unfolding windowRise thresholdAt gateOf
   window-is x y t p q s =
       ap (λ (z : Float). anyRises (getD u 0 0) z k (gateOf u f .looks)) (s ∙ ap₂ (λ (v w : Float). ladder (add binary64 v w)) p q)
+
+-- ---- early rise as a number
+
+pub no-mark : ofBits binary64 0 ≡ ofInt binary64 (pos (one false))
+unfolding ofBits ofInt
+no-mark = refl
+
+pub a-mark : ofBits binary64 0x3ff0_0000_0000_0000 ≡ ofInt binary64 (pos (one true))
+unfolding ofBits ofInt
+a-mark = refl
+
+-- s is the header's started
+pub before-first : (s : ℕ) (e : Bool) → s ≡ 0 → false ≡ (not (eqb s 0) && e)
+before-first s e h = rw (eq-eqb s 0 h)
+
+pub after-first : (s : ℕ) (b e : Bool) → (s ≡ 0 → ⊥) → b ≡ e → b ≡ (not (eqb s 0) && e)
+after-first s b e h q = rw (ne-eqb s 0 h) q
 
 -- ---- all channels
 
