@@ -73,8 +73,7 @@ module _ (bu : List ℕ) (bf : List Float) (gu : List ℕ) (gf : List Float) whe
       let a = neither (pairRefusal bu bf gu gf) _ e in
       let t = passed (differ db n || differ power n || differ rise n || differ drop n) 5 0 (omega arith) (a .1) .0 in
       let t₃ = or-l (differ db n || differ power n || differ rise n) (differ drop n) t in
-      let t₂ = or-l (differ db n || differ power n) (differ rise n) t₃ in
-      (
+      let t₂ = or-l (differ db n || differ power n) (differ rise n) t₃ in (
         paired (a .0),
         same-of db n (or-l (differ db n) (differ power n) t₂),
         same-of power n (or-r (differ db n) (differ power n) t₂),

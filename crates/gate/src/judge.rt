@@ -13,7 +13,8 @@ ghost use Rattle.model.specs.Gate.{levelOf, earlyRise, windowRise};
 ghost use Rattle.model.specs.GateStores.{gateOf};
 ghost use Rattle.gate_store.specs.GoodGate.{GateReady};
 ghost use Rattle.gate.specs.Paired.{Paired, Marked};
-use crate::triples::{cursor, wide};
+use crate::triples::cursor;
+use crate::triples::wide;
 
 const ABSENT: u16 = 65535;
 

@@ -7,7 +7,9 @@ ghost use Rattle.model.specs.Gate.{gateStep};
 ghost use Rattle.model.specs.GateStores.{gateF, gateOf};
 ghost use Rattle.gate_store.specs.GoodGate.{GateReady};
 ghost use Rattle.gate.specs.Steps.{Holds, smoothStep, looksStep};
-use crate::triples::{cursor, put_cursor, wide};
+use crate::triples::cursor;
+use crate::triples::put_cursor;
+use crate::triples::wide;
 
 // The first update: the dB themselves.
 fn start_db(smooth: &mut [f64], power_db: &[f64])

@@ -63,10 +63,11 @@ judge-requires : tie.Need-judge-requires
 judge-requires c κs = let w = c .before .before .before .before .before .before .before .before in
     let e = w .before .before .before in
     let h = hop (e .before) in
-    let n = after-n (BU e) (BF e) (GU e) (GF e) (h .db) (h .power) (asked e .0) (w .step .last .0) (w .step .last .1 .0) (w .step .ensures) in
-    (after-paired (BU e) (BF e) (GU e) (GF e) (h .db) (h .power) (asked e .0) (w .step .last .0) (w .step .last .1 .0) (w .step .ensures),
-    asked e .3 ∙ sym n,
-    asked e .4 ∙ sym n)
+    let n = after-n (BU e) (BF e) (GU e) (GF e) (h .db) (h .power) (asked e .0) (w .step .last .0) (w .step .last .1 .0) (w .step .ensures) in (
+      after-paired (BU e) (BF e) (GU e) (GF e) (h .db) (h .power) (asked e .0) (w .step .last .0) (w .step .last .1 .0) (w .step .ensures),
+      asked e .3 ∙ sym n,
+      asked e .4 ∙ sym n,
+    )
 
 same-length-3 : tie.Need-same-length-3
 same-length-3 c = search needs

@@ -94,11 +94,12 @@ loop-again c = let r = c .before .before .before in
     let bu = s .args .bank .now in
     let bf = s .args .bank-f .now in
     let gu = s .args .gate .now in
-    let gf = s .args .gate-f .now in
-    (turns (s .args .rise .now) (riseOf bu bf gu gf) (l .loop .k) (l .loop .rise) (boolByte (r .rise-at .result)) (l .loop .inv .0) (omega arith)
-    (flag (r .rise-at .result) ∙ ap one (r .rise-at .ensures)),
-    turns (s .args .drop .now) (dropOf bu bf gu gf) (l .loop .k) (l .loop .drop) (boolByte (c .drop-at .result)) (l .loop .inv .1) (omega arith)
-    (flag (c .drop-at .result) ∙ ap one (c .drop-at .ensures ∙ drop-is gu gf (bankOf bu bf) (l .loop .k) (s .pre .0 .0 .gate) (below i) (e .effective-at .result) (e .effective-at .ensures))))
+    let gf = s .args .gate-f .now in (
+      turns (s .args .rise .now) (riseOf bu bf gu gf) (l .loop .k) (l .loop .rise) (boolByte (r .rise-at .result)) (l .loop .inv .0) (omega arith)
+          (flag (r .rise-at .result) ∙ ap one (r .rise-at .ensures)),
+      turns (s .args .drop .now) (dropOf bu bf gu gf) (l .loop .k) (l .loop .drop) (boolByte (c .drop-at .result)) (l .loop .inv .1) (omega arith)
+          (flag (c .drop-at .result) ∙ ap one (c .drop-at .ensures ∙ drop-is gu gf (bankOf bu bf) (l .loop .k) (s .pre .0 .0 .gate) (below i) (e .effective-at .result) (e .effective-at .ensures))),
+    )
 
 same-length : tie.Need-same-length Inv-loop μ-loop
 same-length c = search needs

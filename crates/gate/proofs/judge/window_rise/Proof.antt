@@ -138,10 +138,11 @@ loop-again : tie.Need-loop-again Inv-loop μ-loop
 loop-again c = let q = c .before in
     let a = q .before .before in
     let l = a .before .before in
-    let s = start l in
-    (omega (arith, a .before .loop-test .taken),
-    (λ i. l .loop .inv .1 i + lookSize (n-is l i) (m-is a i)) ∙ ap (startAt (U l)) (sym (add-one (l .loop .j))),
-    any-more (risesAt (U l) (F l) (s .args .threshold) (s .args .k)) (l .loop .j) (l .loop .inv .2) (sym (answer q) ∙ c .if1 .left))
+    let s = start l in (
+      omega (arith, a .before .loop-test .taken),
+      (λ i. l .loop .inv .1 i + lookSize (n-is l i) (m-is a i)) ∙ ap (startAt (U l)) (sym (add-one (l .loop .j))),
+      any-more (risesAt (U l) (F l) (s .args .threshold) (s .args .k)) (l .loop .j) (l .loop .inv .2) (sym (answer q) ∙ c .if1 .left),
+    )
 
 returns-2 : tie.Need-returns-2 Inv-loop μ-loop
 returns-2 c = let l = c .before in

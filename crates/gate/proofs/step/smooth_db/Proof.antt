@@ -1,8 +1,8 @@
 -- `gate::step::smooth_db` meets its contract: the smoothed dB are the first n floats. Assumes nothing.
 use mathlib.Core.Path.{_≡_, refl, _∙_}
-use Prim.Native.Nat.{_≤_}
+use Prim.Native.Nat.{_-_, _≤_}
 use native.Mathlib.Omega.{arith}
-use lib.ListN.{length}
+use lib.ListN.{length, getD}
 use Rattle.laws.proofs.Lists.{length-part}
 use Rattle.gate.proofs.Lengths.{smooth-within}
 use Rattle.gate.proofs.Stages.{starts, follows, smooth-done}
@@ -13,6 +13,10 @@ use Rattle.gate.proofs.step.smooth_db.Tie as tie
 -- n floats are there
 fits : (s : tie.Start) → length (s .args .power-db .now) ≤ length (s .args .gate-f .now)
 fits s = omega (arith, smooth-within (s .args .gate .now) (s .args .gate-f .now) (s .pre .0), s .pre .1)
+
+-- the width of what is lent
+width-is : (s : tie.Start) → length (s .args .power-db .now) - 0 ≡ getD (s .args .gate .now) 0 0
+width-is s = omega (arith, s .pre .1)
 
 shared-slice-read-if1 : tie.Need-shared-slice-read-if1
 shared-slice-read-if1 c = search needs
@@ -39,8 +43,8 @@ returns c = let q = c .before .before in
     let u = s .args .gate .now in
     let f = s .args .gate-f .now in
     let db = s .args .power-db .now in
-    smooth-done u f (s .pre .0) db (length db) (s .pre .1) (q .start-db .last .0) _
-    (q .start-db .ensures ∙ starts u f (s .pre .0) db (length db) (s .pre .1) (t .if1 .taken) _ (length-part 0 (length db) f (omega (arith, fits s)))) refl
+    smooth-done u f (s .pre .0) db (length db - 0) (width-is s) (q .start-db .last .0) _
+    (q .start-db .ensures ∙ starts u f (s .pre .0) db (length db - 0) (width-is s) (t .if1 .taken) _ (length-part 0 (length db - 0) f (omega (arith, fits s)))) refl
 
 sub-follow-db : tie.Need-sub-follow-db
 sub-follow-db c = search needs
@@ -64,8 +68,8 @@ returns-2 c = let q = c .before .before in
     let u = s .args .gate .now in
     let f = s .args .gate-f .now in
     let db = s .args .power-db .now in
-    smooth-done u f (s .pre .0) db (length db) (s .pre .1) (q .follow-db .last .0) _
-    (q .follow-db .ensures ∙ follows u f (s .pre .0) db (length db) (s .pre .1) (t .if1 .left) _ (length-part 0 (length db) f (omega (arith, fits s)))) refl
+    smooth-done u f (s .pre .0) db (length db - 0) (width-is s) (q .follow-db .last .0) _
+    (q .follow-db .ensures ∙ follows u f (s .pre .0) db (length db - 0) (width-is s) (t .if1 .left) _ (length-part 0 (length db - 0) f (omega (arith, fits s)))) refl
 
 pub smooth-db-spec : {M : Type 1} → statement M
 smooth-db-spec =

@@ -124,9 +124,10 @@ part-step-look-end c = omega (arith, within c)
 step-look-requires : tie.Need-step-look-requires Inv-loop μ-loop
 step-look-requires c κs = let a = c .before in
     let i = a .before .before in
-    let l = i .before in
-    (lent-fits (U l) (F l) (start l .pre .0) (l .loop .j) (more i) (l .loop .gate-f) (long-f l) (kept i) (length (P l)) (a .cursor .result .m) (l .loop .at) (start l .pre .1) (m-is a) (l .loop .inv .1),
-    cursor-fits (U l) (F l) (start l .pre .0) (l .loop .j) (more i) (a .cursor .result) (cursor-is a))
+    let l = i .before in (
+      lent-fits (U l) (F l) (start l .pre .0) (l .loop .j) (more i) (l .loop .gate-f) (long-f l) (kept i) (length (P l)) (a .cursor .result .m) (l .loop .at) (start l .pre .1) (m-is a) (l .loop .inv .1),
+      cursor-fits (U l) (F l) (start l .pre .0) (l .loop .j) (more i) (a .cursor .result) (cursor-is a),
+    )
 
 put-cursor-requires : tie.Need-put-cursor-requires Inv-loop μ-loop
 put-cursor-requires c κs = let q = c .before .before .before in
@@ -147,11 +148,12 @@ loop-again c = let p = c .before .before in
     let q = p .before .before .before .before in
     let a = q .before .before in
     let i = a .before .before in
-    let l = i .before in
-    (omega (arith, i .loop-test .taken),
-    (λ k. l .loop .inv .1 k + lookSize (start l .pre .1 k) (m-is a k)) ∙ ap (startAt (U l)) (sym (add-one (l .loop .j))),
-    turned-u (U l) (F l) (P l) (start l .pre .0) (l .loop .j) (more i) (l .loop .gate) (l .loop .gate-f) (l .loop .inv .2) (l .loop .inv .3) (l .loop .at) (a .cursor .result) (q .step-look .result) (q .step-look .last .0) (start l .pre .1) (a .cursor .ensures) (l .loop .inv .1) (q .step-look .ensures) (p .put-cursor .last .0) (p .put-cursor .ensures),
-    turned-f (U l) (F l) (P l) (start l .pre .0) (l .loop .j) (more i) (l .loop .gate) (l .loop .gate-f) (l .loop .inv .2) (l .loop .inv .3) (l .loop .at) (a .cursor .result) (q .step-look .result) (q .step-look .last .0) (start l .pre .1) (a .cursor .ensures) (l .loop .inv .1) (q .step-look .ensures) _ refl)
+    let l = i .before in (
+      omega (arith, i .loop-test .taken),
+      (λ k. l .loop .inv .1 k + lookSize (start l .pre .1 k) (m-is a k)) ∙ ap (startAt (U l)) (sym (add-one (l .loop .j))),
+      turned-u (U l) (F l) (P l) (start l .pre .0) (l .loop .j) (more i) (l .loop .gate) (l .loop .gate-f) (l .loop .inv .2) (l .loop .inv .3) (l .loop .at) (a .cursor .result) (q .step-look .result) (q .step-look .last .0) (start l .pre .1) (a .cursor .ensures) (l .loop .inv .1) (q .step-look .ensures) (p .put-cursor .last .0) (p .put-cursor .ensures),
+      turned-f (U l) (F l) (P l) (start l .pre .0) (l .loop .j) (more i) (l .loop .gate) (l .loop .gate-f) (l .loop .inv .2) (l .loop .inv .3) (l .loop .at) (a .cursor .result) (q .step-look .result) (q .step-look .last .0) (start l .pre .1) (a .cursor .ensures) (l .loop .inv .1) (q .step-look .ensures) _ refl,
+    )
 
 same-length : tie.Need-same-length Inv-loop μ-loop
 same-length c = omega (arith, long-u (c .before), start (c .before) .pre .0 .long)
