@@ -1,21 +1,21 @@
 -- A fresh gate is sound, and a gate update keeps a gate sound. Assumes nothing.
 use mathlib.Core.Path.{_≡_, refl, sym, ap, subst, _∙_}
-use mathlib.Core.Bool.{Bool, true, false, cond, _&&_, _||_}
+use mathlib.Core.Bool.{Bool, true, false, cond}
 use mathlib.Core.List.{List, [], _∷_, map}
 use mathlib.Core.Logic.{_⊎_}
-use Prim.Native.Nat.{ℕ, zero, suc, _+_, _*_, _%_, _<_, _≤_, min}
+use Prim.Native.Nat.{ℕ, zero, suc, _+_, _*_, _%_, _<_, _≤_}
 use native.Mathlib.Nat.{mod-lt, mod-eq-of-lt}
 use native.Mathlib.Omega.{arith}
 use lib.Dec.{eqb}
 use lib.ListN.{length, getD, set, replicate, length-map, length-set, length-replicate, getD-replicate}
 use lib.Ieee.{Float}
-use borrow.Author.Tests.{eqb-true, eqb-false, eq-eqb}
+use borrow.Author.Tests.{eqb-false}
 use Rattle.laws.specs.Lists.{tab}
 use Rattle.laws.specs.Tests.{within}
-use Rattle.laws.proofs.Tests.{clash, by-test, and-l, and-r, or-l, or-r, within-of}
+use Rattle.laws.proofs.Tests.{and-l, and-r, or-l, or-r, within-of}
 use Rattle.laws.proofs.Tabs.{length-tab, getD-tab}
 use Rattle.model.specs.Numbers.{f0}
-use Rattle.model.specs.Windows.{PowerLooks, ringOf, turned, grown, pushLook, advanceLook, rebaseLook, settleAt, stepLook, freshLook}
+use Rattle.model.specs.Windows.{PowerLooks, ringOf, pushLook, advanceLook, rebaseLook, settleAt, stepLook, freshLook}
 use Rattle.model.specs.Gate.{Gate, Settings, among, distinct, freshGate, gateStep, sampleOf, dbAfter}
 use Rattle.model.specs.GateCalls.{allWithin, goodLengths}
 use Rattle.gate_store.specs.GoodGate.{GoodLook, GoodGate, lookAt}
@@ -91,35 +91,82 @@ pub step-look-m : (n : ℕ) (sample : ℕ → Float) (l : PowerLooks) → stepLo
 unfolding stepLook pushLook advanceLook
 step-look-m n sample l = let a = advanceLook (pushLook n sample l) in settle-m (a .cursor) n a
 
--- ---- looks replaced one by one
-
 getD-map : {A B : Type 0} (f : A → B) (l : List A) (j : ℕ) (d : A) (e : B) → j < length l → getD (map f l) j e ≡ f (getD l j d)
 getD-map f [] j d e h = absurd (omega arith)
 getD-map f (x ∷ l) zero d e h = refl
 getD-map f (x ∷ l) (suc j) d e h = getD-map f l j d e (omega arith)
 
-pub good-gate-step : (g : Gate) (db power : List Float) → GoodGate g → GoodGate (gateStep g db power)
+-- ---- the parts of a gate update: the smoothed dB, the windows, started
+
+abbrev pub withSmooth : Gate → List Float → Gate
+withSmooth g x = record { n = g .n; started = g .started; on = g .on; off = g .off; early = g .early; looks = g .looks; smooth = x }
+
+abbrev pub withLooks : Gate → List PowerLooks → Gate
+withLooks g ls = record { n = g .n; started = g .started; on = g .on; off = g .off; early = g .early; looks = ls; smooth = g .smooth }
+
+abbrev pub withStarted : Gate → ℕ → Gate
+withStarted g s = record { n = g .n; started = s; on = g .on; off = g .off; early = g .early; looks = g .looks; smooth = g .smooth }
+
+abbrev pub smoothAfter : Gate → List Float → List Float
+smoothAfter g db = tab (g .n) (λ k. dbAfter (g .started) (getD (g .smooth) k f0) (getD db k f0))
+
+pub step-parts : (g : Gate) (db power : List Float)
+    → gateStep g db power ≡ withStarted (withLooks (withSmooth g (smoothAfter g db)) (map (stepLook (g .n) (sampleOf power)) (g .looks))) 1
 unfolding gateStep
-good-gate-step g db power s =
+step-parts g db power = refl
+
+pub good-smooth : (g : Gate) (x : List Float) → GoodGate g → length x ≡ g .n → GoodGate (withSmooth g x)
+good-smooth g x s e =
     record {
       low = s .low;
       high = s .high;
-      started = omega arith;
+      started = s .started;
+      on = s .on;
+      off = s .off;
+      early = s .early;
+      some = s .some;
+      few = s .few;
+      smooth-long = e;
+      look = s .look;
+      distinct = s .distinct;
+    }
+
+pub good-started : (g : Gate) (t : ℕ) → GoodGate g → t ≤ 1 → GoodGate (withStarted g t)
+good-started g t s h =
+    record {
+      low = s .low;
+      high = s .high;
+      started = h;
+      on = s .on;
+      off = s .off;
+      early = s .early;
+      some = s .some;
+      few = s .few;
+      smooth-long = s .smooth-long;
+      look = s .look;
+      distinct = s .distinct;
+    }
+
+-- each length replaced by one that is sound and as long
+pub good-looks : (g : Gate) (S : PowerLooks → PowerLooks) → GoodGate g → ((l : PowerLooks) → S l .m ≡ l .m)
+    → ((l : PowerLooks) → GoodLook (g .n) l → GoodLook (g .n) (S l)) → GoodGate (withLooks g (map S (g .looks)))
+good-looks g S s same good =
+    record {
+      low = s .low;
+      high = s .high;
+      started = s .started;
       on = s .on;
       off = s .off;
       early = s .early;
       some = omega (arith, s .some, count);
       few = omega (arith, s .few, count);
-      smooth-long = length-tab (g .n) _;
-      look = λ j h. subst (GoodLook (g .n)) (sym (at j (omega (arith, count)))) (good-step-look (g .n) (sampleOf power) (lookAt g j) (s .look j (omega (arith, count))));
+      smooth-long = s .smooth-long;
+      look = λ j h. subst (GoodLook (g .n)) (sym (at j (omega (arith, count)))) (good (lookAt g j) (s .look j (omega (arith, count))));
       distinct =
           λ i j l h e.
           s .distinct i j l (omega (arith, count)) (sym (m-at i (omega (arith, count))) ∙ e ∙ m-at j (omega (arith, count)));
     }
   where
-    S : PowerLooks → PowerLooks
-    S = stepLook (g .n) (sampleOf power)
-
     count : length (map S (g .looks)) ≡ length (g .looks)
     count = length-map (g .looks) S
 
@@ -127,7 +174,15 @@ good-gate-step g db power s =
     at j h = getD-map S (g .looks) j (freshLook 0 0) (freshLook 0 0) h
 
     m-at : (j : ℕ) → j < length (g .looks) → getD (map S (g .looks)) j (freshLook 0 0) .m ≡ lookAt g j .m
-    m-at j h = ap (λ (l : PowerLooks). l .m) (at j h) ∙ step-look-m (g .n) (sampleOf power) (lookAt g j)
+    m-at j h = ap (λ (l : PowerLooks). l .m) (at j h) ∙ same (lookAt g j)
+
+pub good-gate-step : (g : Gate) (db power : List Float) → GoodGate g → GoodGate (gateStep g db power)
+good-gate-step g db power s =
+    let x = smoothAfter g db in
+    let S = stepLook (g .n) (sampleOf power) in
+    let t = good-smooth g x s (length-tab (g .n) (λ k. dbAfter (g .started) (getD (g .smooth) k f0) (getD db k f0))) in
+    let v = good-looks (withSmooth g x) S t (step-look-m (g .n) (sampleOf power)) (good-step-look (g .n) (sampleOf power)) in
+    subst GoodGate (sym (step-parts g db power)) (good-started (withLooks (withSmooth g x) (map S (g .looks))) 1 v (omega arith))
 
 -- ---- a fresh gate
 

@@ -1,6 +1,6 @@
 -- A sound gate: it comes back from its stores, they pass the test of the refusals, and what passes that test is sound. Assumes nothing.
 use mathlib.Core.Path.{_≡_, refl, sym, ap, subst, _∙_}
-use mathlib.Core.Bool.{Bool, true, false, not, cond, _&&_, _||_}
+use mathlib.Core.Bool.{Bool, true, not, cond, _&&_, _||_}
 use mathlib.Core.List.{List, [], _∷_, _++_, map}
 use mathlib.Core.Logic.{_⊎_, inl, inr}
 use Prim.Native.Nat.{ℕ, _+_, _-_, _*_, _/_, _<_, _≤_}
@@ -62,17 +62,18 @@ count-of u f = ap length (looks-of u f) ∙ length-tab (getD u 5 0) (lookIn u f)
 pub look-of : (u : List ℕ) (f : List Float) (j : ℕ) → j < getD u 5 0 → lookAt (gateOf u f) j ≡ lookIn u f j
 look-of u f j h = ap (λ (ls : List PowerLooks). getD ls j (freshLook 0 0)) (looks-of u f) ∙ getD-tab (getD u 5 0) (lookIn u f) j (freshLook 0 0) h
 
--- the sizes that a call reads
-pub record GateSizes (u : List ℕ) : Type 0 where
-  pub low : 1 ≤ getD u 0 0
-  pub high : getD u 0 0 ≤ 512
-  pub started : getD u 1 0 ≤ 1
-  pub on : getD u 2 0 ≤ 1600
-  pub off : getD u 3 0 ≤ 1600
-  pub some : 1 ≤ getD u 5 0
-  pub few : getD u 5 0 ≤ 8
+-- the entries of the header: n, started, on, off, early, how many lengths
+pub record Head (n s a b e c : ℕ) : Type 0 where
+  pub low : 1 ≤ n
+  pub high : n ≤ 512
+  pub started : s ≤ 1
+  pub on : a ≤ 1600
+  pub off : b ≤ 1600
+  pub early : (e ≡ 65535) ⊎ (e ≤ 1600)
+  pub some : 1 ≤ c
+  pub few : c ≤ 8
 
-pub sizes : (u : List ℕ) (f : List Float) → GateReady u f → GateSizes u
+pub sizes : (u : List ℕ) (f : List Float) → GateReady u f → Head (getD u 0 0) (getD u 1 0) (getD u 2 0) (getD u 3 0) (getD u 4 0) (getD u 5 0)
 unfolding gateOf
 sizes u f r =
     record {
@@ -81,6 +82,7 @@ sizes u f r =
       started = r .good .started;
       on = r .good .on;
       off = r .good .off;
+      early = r .good .early;
       some = omega (arith, r .good .some, count-of u f);
       few = omega (arith, r .good .few, count-of u f);
     }
@@ -241,16 +243,6 @@ triple-facts m c t h =
     A : Bool
     A = within 1 375 m && ltb c (2 * m) && leb t (2 * m)
 
-pub record Head (n s a b e c : ℕ) : Type 0 where
-  pub low : 1 ≤ n
-  pub high : n ≤ 512
-  pub started : s ≤ 1
-  pub on : a ≤ 1600
-  pub off : b ≤ 1600
-  pub early : (e ≡ 65535) ⊎ (e ≤ 1600)
-  pub some : 1 ≤ c
-  pub few : c ≤ 8
-
 pub head-facts : (n started on off early count : ℕ) → soundHead n started on off early count ≡ true → Head n started on off early count
 head-facts n started on off early count h =
     let h₁ = and-l (within 1 512 n && leb started 1 && soundLevel on && soundLevel off && (eqb early 65535 || soundLevel early)) (within 1 8 count) h in
@@ -320,25 +312,11 @@ module _ (u : List ℕ) (f : List Float) (r : GateReady u f) where
         r .unused (6 + 3 * j + 2) (omega arith) (omega arith),
       ))
 
-  head-passes : Head (getD u 0 0) (getD u 1 0) (getD u 2 0) (getD u 3 0) (getD u 4 0) (getD u 5 0)
-  head-passes =
-      let z = sizes u f r in
-      record {
-        low = z .low;
-        high = z .high;
-        started = z .started;
-        on = z .on;
-        off = z .off;
-        early = subst (λ (e : ℕ). (e ≡ 65535) ⊎ (e ≤ 1600)) (early-of u f) (r .good .early);
-        some = z .some;
-        few = z .few;
-      }
-
   pub ready-sound : soundGate u ≡ true
   unfolding soundGate soundTriples
   ready-sound =
       and-true (soundHead (getD u 0 0) (getD u 1 0) (getD u 2 0) (getD u 3 0) (getD u 4 0) (getD u 5 0)) (allBelow 8 (tripleTest u))
-      (head-sound (getD u 0 0) (getD u 1 0) (getD u 2 0) (getD u 3 0) (getD u 4 0) (getD u 5 0) head-passes) (all-true (tripleTest u) 8 triple-passes)
+      (head-sound (getD u 0 0) (getD u 1 0) (getD u 2 0) (getD u 3 0) (getD u 4 0) (getD u 5 0) (sizes u f r)) (all-true (tripleTest u) 8 triple-passes)
 
   pub gate-not-refused : gateRefusal u f ≡ 0
   unfolding gateRefusal

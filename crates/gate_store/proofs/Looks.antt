@@ -1,10 +1,10 @@
 -- A loop over the lengths of a gate that replaces each by its next state, S: what k turns leave in the two stores. Assumes nothing.
-use mathlib.Core.Path.{_≡_, refl, sym, ap, ap₂, _∙_}
+use mathlib.Core.Path.{_≡_, refl, sym, ap, ap₂, subst, _∙_}
 use mathlib.Core.List.{List, [], _∷_, _++_, map}
 use Prim.Native.Nat.{ℕ, _+_, _-_, _*_, _<_, _≤_}
 use native.Mathlib.Nat.{add-zero}
 use native.Mathlib.Omega.{arith}
-use lib.ListN.{length, getD, take, drop, set, replicate, length-drop, take-append-drop, length-set}
+use lib.ListN.{length, getD, take, drop, set, replicate, length-drop, take-append-drop}
 use lib.Seq.{take-all, drop-drop, getD-drop, take-set-le, drop-set-add}
 use lib.Ieee.{Float}
 use Rattle.laws.specs.Lists.{part, splice, tab, joined}
@@ -12,17 +12,13 @@ use Rattle.laws.proofs.Lists.{length-part, length-splice, getD-before, getD-pas
 use Rattle.laws.proofs.Tabs.{length-tab, map-tab, length-joined, parts-begin, parts-turn}
 use Rattle.laws.proofs.Runs.{replaced, run-upto, run-begins, run-long, run-lent, run-turns, run-ends}
 use Rattle.model.specs.Windows.{PowerLooks, stepLook}
-use Rattle.model.specs.Gate.{Gate, gateStep, sampleOf, dbAfter}
-use Rattle.model.specs.GateStores.{triple, gateU, gateF, mAt, cursorAt, filledAt, lookF, lookOf, gateOf, gateFLen}
+use Rattle.model.specs.Gate.{Gate}
+use Rattle.model.specs.GateStores.{triple, gateU, gateF, mAt, cursorAt, filledAt, lookF, lookOf, gateOf}
 use Rattle.windows.proofs.Encode.{look-forth}
 use Rattle.gate_store.specs.GoodGate.{GoodLook, GoodGate, GateReady}
-use Rattle.gate_store.proofs.Encode.{lookIn, startAt, sizeAt, starts-meet, part-fits, header, zeros-forth}
-use Rattle.gate_store.proofs.Goods.{looks-of, smooth-of, sizes, look-good, look-fits, length-lookF}
-
--- ---- a gate with other looks
-
-abbrev pub withLooks : Gate → List PowerLooks → Gate
-withLooks g ls = record { n = g .n; started = g .started; on = g .on; off = g .off; early = g .early; looks = ls; smooth = g .smooth }
+use Rattle.gate_store.proofs.Encode.{gate-forth-u, gate-forth-f, lookIn, startAt, sizeAt, starts-meet, header, zeros-forth}
+use Rattle.gate_store.proofs.Goods.{looks-of, smooth-of, gate-back, good-gate-ready, sizes, look-good, look-fits, length-lookF}
+use Rattle.gate_store.proofs.Fresh.{withLooks, withSmooth, withStarted, good-step-look, step-look-m}
 
 -- ---- the two stores after k turns
 
@@ -80,6 +76,13 @@ module _ (u : List ℕ) (f : List Float) (S : PowerLooks → PowerLooks) (r : Ga
   looks-lent h =
       run-lent (startAt u) (sizeAt u) k (sizeAt u k) f (λ j. lookF (S (lookIn u f j))) (starts-meet u k) (λ j l. s .long j (omega arith)) smooth-fits
 
+  pub looks-lent-is : k < getD u 5 0 → part (startAt u k) (sizeAt u k) (looksF u f S k) ≡ lookF (lookIn u f k)
+  looks-lent-is h =
+      looks-lent h
+      ∙ sym
+      (look-forth (getD u 0 0) (mAt u k) (cursorAt u k) (filledAt u k) (part (startAt u k) (sizeAt u k) f)
+      (length-part (startAt u k) (sizeAt u k) f (look-fits u f k r h)))
+
   -- and so are the entries before the triples ..
   pub looks-head : (i : ℕ) → i < 6 → getD (looksU u f S k) i 0 ≡ getD u i 0
   looks-head i h = getD-before 6 (3 * k) u (joined (tab k (λ j. triple (S (lookIn u f j))))) i 0 h (omega (arith, r .long))
@@ -133,6 +136,26 @@ module _ (u : List ℕ) (f : List Float) (S : PowerLooks → PowerLooks) (r : Ga
           ∙ sym (take-all (24 - 3 * C) (drop (6 + 3 * C) u) (omega (arith, length-drop (6 + 3 * C) u, r .long)))
           ∙ sym (zeros-forth u (6 + 3 * C) (24 - 3 * C) (omega (arith, r .long, sizes u f r .few)) (λ i h l. r .unused i h (omega (arith, sizes u f r .few))))
 
+-- ---- one turn as the code has it: l is what was left, a the place, w the width and x what came back
+
+module _ (u : List ℕ) (f : List Float) (S : PowerLooks → PowerLooks) (r : GateReady u f) (s : Steady u f S) (k : ℕ) (h : k < getD u 5 0) where
+  -- the windows that are lent are the gate's
+  pub looks-lent-look : (a w : ℕ) (v : List ℕ) (l : List Float) → a ≡ startAt u k → w ≡ sizeAt u k → v ≡ looksU u f S k → l ≡ looksF u f S k
+      → lookOf (getD u 0 0) (mAt v k) (cursorAt v k) (filledAt v k) (part a w l) ≡ lookIn u f k
+  looks-lent-look a w v l ea ew ev el =
+      (λ i. lookOf (getD u 0 0) (mAt (ev i) k) (cursorAt (ev i) k) (filledAt (ev i) k) (part (ea i) (ew i) (el i)))
+      ∙ (λ i.
+      lookOf (getD u 0 0) (looks-ahead u f S r s k (6 + 3 * k) (omega arith) i) (looks-ahead u f S r s k (6 + 3 * k + 1) (omega arith) i)
+      (looks-ahead u f S r s k (6 + 3 * k + 2) (omega arith) i) (looks-lent u f S r s k h i))
+
+  pub looks-next-f : (a w : ℕ) (l x : List Float) → a ≡ startAt u k → w ≡ sizeAt u k → l ≡ looksF u f S k → x ≡ lookF (S (lookIn u f k))
+      → splice a w l x ≡ looksF u f S (k + 1)
+  looks-next-f a w l x ea ew el ex = (λ i. splice (ea i) (ew i) (el i) (ex i)) ∙ looks-turn-f u f S r s k h
+
+  pub looks-next-u : (a c t : ℕ) (l : List ℕ) → a ≡ 6 + 3 * k → l ≡ looksU u f S k → c ≡ S (lookIn u f k) .cursor → t ≡ S (lookIn u f k) .filled
+      → set (set l (a + 1) c) (a + 2) t ≡ looksU u f S (k + 1)
+  looks-next-u a c t l ea el ec et = (λ i. set (set (el i) (ea i + 1) (ec i)) (ea i + 2) (et i)) ∙ looks-turn-u u f S r s k h
+
 pub steady : (u : List ℕ) (f : List Float) (S : PowerLooks → PowerLooks) → GateReady u f → ((l : PowerLooks) → S l .m ≡ l .m)
     → ((l : PowerLooks) → GoodLook (getD u 0 0) l → GoodLook (getD u 0 0) (S l)) → Steady u f S
 steady u f S r same good =
@@ -140,3 +163,31 @@ steady u f S r same good =
       same = λ j h. same (lookIn u f j);
       long = λ j h. length-lookF (getD u 0 0) (S (lookIn u f j)) (good (lookIn u f j) (look-good u f j r h)) ∙ ap (λ (m : ℕ). 2 * m * getD u 0 0 + getD u 0 0 + getD u 0 0) (same (lookIn u f j));
     }
+
+-- the step of document 01
+pub steady-step : (u : List ℕ) (f : List Float) (sample : ℕ → Float) → GateReady u f → Steady u f (stepLook (getD u 0 0) sample)
+steady-step u f sample r =
+    steady u f (stepLook (getD u 0 0) sample) r (step-look-m (getD u 0 0) sample) (good-step-look (getD u 0 0) sample)
+
+-- ---- the other parts of a gate update
+
+pub put-smooth : (g : Gate) (x : List Float) → length (g .smooth) ≡ g .n → splice 0 (g .n) (gateF g) x ≡ gateF (withSmooth g x)
+put-smooth g x e = splice-mid [] (g .smooth) (joined (map lookF (g .looks))) x 0 (g .n) refl e
+
+pub put-started : (g : Gate) (s : ℕ) → set (gateU g) 1 s ≡ gateU (withStarted g s)
+put-started g s = refl
+
+-- ---- two stores and the gate that they hold
+
+pub holds-u : (u : List ℕ) (f : List Float) → GateReady u f → u ≡ gateU (gateOf u f)
+holds-u u f r = sym (gate-forth-u u f (r .long) (sizes u f r .few) (r .unused))
+
+pub holds-f : (u : List ℕ) (f : List Float) → GateReady u f → f ≡ gateF (gateOf u f)
+holds-f u f r = sym (gate-forth-f u f (r .long-f))
+
+pub held-ready : (u : List ℕ) (f : List Float) (g : Gate) → GoodGate g → u ≡ gateU g → f ≡ gateF g → GateReady u f
+held-ready u f g s a b =
+    subst (λ (v : List ℕ). GateReady v f) (sym a) (subst (GateReady (gateU g)) (sym b) (good-gate-ready g s))
+
+pub held-is : (u : List ℕ) (f : List Float) (g : Gate) → GoodGate g → u ≡ gateU g → f ≡ gateF g → gateOf u f ≡ g
+held-is u f g s a b = ap₂ gateOf a b ∙ gate-back g s

@@ -25,9 +25,13 @@ twoLong n rise drop = first (differ rise n || differ drop n) 5 0
 abbrev pub fourLong : ℕ → ℕ → ℕ → ℕ → ℕ → ℕ
 fourLong n db power rise drop = first (differ db n || differ power n || differ rise n || differ drop n) 5 0
 
--- the refusals of the two readings: the stores, then 7 if k is n or more
+-- 7: there is no channel k
+abbrev pub channelRefusal : ℕ → ℕ → ℕ
+channelRefusal n k = first (not (ltb k n)) 7 0
+
+-- the refusals of the two readings: the stores, then 7
 abbrev pub smoothedRefusal : List ℕ → List Float → ℕ → ℕ
-smoothedRefusal u f k = orElse (gateRefusal u f) (first (not (ltb k (getD u 0 0))) 7 0)
+smoothedRefusal u f k = orElse (gateRefusal u f) (channelRefusal (getD u 0 0) k)
 
 abbrev pub earlyRefusal : List ℕ → List Float → List ℕ → List Float → ℕ → ℕ
-earlyRefusal bu bf gu gf k = orElse (pairRefusal bu bf gu gf) (first (not (ltb k (getD gu 0 0))) 7 0)
+earlyRefusal bu bf gu gf k = orElse (pairRefusal bu bf gu gf) (channelRefusal (getD gu 0 0) k)

@@ -1,15 +1,29 @@
 // Document 01, "Stores", the gate's half: the test of a lent gate, the refusals in their order, and a fresh gate.
+pub mod lengths;
+pub mod making;
 pub mod sound;
 
 ghost use mathlib.Core.Path.{_≡_};
-ghost use lib.ListN.{length};
-ghost use Rattle.model.specs.GateCalls.{gateRefusal, pairRefusal, gateUpdateRefusal, holdRefusal};
-ghost use Rattle.gate_store.specs.Checks.{twoLong, fourLong, smoothedRefusal, earlyRefusal};
+ghost use Rattle.model.specs.GateCalls.{gateFLenFor, gateRefusal, pairRefusal, gateUpdateRefusal, holdRefusal};
+ghost use Rattle.gate_store.specs.Checks.{twoLong, fourLong, channelRefusal, smoothedRefusal, earlyRefusal};
 
 fn wide(x: u16) -> usize
     ensures { λ r. ⌜ r ≡ x ⌝ }
 {
     x as usize
+}
+
+// How many f64 a gate of n channels and these lengths takes; 0 where making refuses them.
+pub fn gate_f_len(n: usize, lengths: &[u16]) -> usize
+    ensures { λ r. ⌜ r ≡ gateFLenFor n (now (lengths .entry)) ⌝ }
+{
+    if !stores::in_band(n) {
+        return 0;
+    }
+    if !lengths::lengths_good(lengths) {
+        return 0;
+    }
+    lengths::floats_for(n, lengths)
 }
 
 // Whether the lent stores are a gate: 0, or the number of the refusal.
@@ -83,9 +97,9 @@ pub fn gate_update_refusal(
 ) -> u16
     ensures { λ r. ⌜ r ≡ gateUpdateRefusal (now (bank .entry)) (now («bank_f» .entry)) (now (gate .entry)) (now («gate_f» .entry)) «power_db» power rise drop ⌝ }
 {
-    let no = pair_refusal(bank, bank_f, gate, gate_f);
-    if no != 0 {
-        return no;
+    let no_pair = pair_refusal(bank, bank_f, gate, gate_f);
+    if no_pair != 0 {
+        return no_pair;
     }
     four_long(wide(gate[0]), power_db, power, rise, drop)
 }
@@ -101,11 +115,20 @@ pub fn hold_refusal(
 ) -> u16
     ensures { λ r. ⌜ r ≡ holdRefusal (now (bank .entry)) (now («bank_f» .entry)) (now (gate .entry)) (now («gate_f» .entry)) rise drop ⌝ }
 {
-    let no = pair_refusal(bank, bank_f, gate, gate_f);
-    if no != 0 {
-        return no;
+    let no_pair = pair_refusal(bank, bank_f, gate, gate_f);
+    if no_pair != 0 {
+        return no_pair;
     }
     two_long(wide(gate[0]), rise, drop)
+}
+
+fn channel_refusal(n: usize, k: usize) -> u16
+    ensures { λ r. ⌜ r ≡ channelRefusal n k ⌝ }
+{
+    if k < n {
+        return 0;
+    }
+    7
 }
 
 // Whether the gate has a smoothed dB of channel k.
@@ -116,22 +139,16 @@ pub fn smoothed_refusal(gate: &[u16], gate_f: &[f64], k: usize) -> u16
     if no != 0 {
         return no;
     }
-    if k < wide(gate[0]) {
-        return 0;
-    }
-    7
+    channel_refusal(wide(gate[0]), k)
 }
 
 // Whether bank and gate have an early rise of channel k.
 pub fn early_refusal(bank: &[u16], bank_f: &[f64], gate: &[u16], gate_f: &[f64], k: usize) -> u16
     ensures { λ r. ⌜ r ≡ earlyRefusal (now (bank .entry)) (now («bank_f» .entry)) (now (gate .entry)) (now («gate_f» .entry)) k ⌝ }
 {
-    let no = pair_refusal(bank, bank_f, gate, gate_f);
-    if no != 0 {
-        return no;
+    let no_pair = pair_refusal(bank, bank_f, gate, gate_f);
+    if no_pair != 0 {
+        return no_pair;
     }
-    if k < wide(gate[0]) {
-        return 0;
-    }
-    7
+    channel_refusal(wide(gate[0]), k)
 }

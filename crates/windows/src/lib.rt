@@ -35,10 +35,11 @@ impl Cursor {
         let width = 2 * m;
         let next = (at + 1) % width;
         if filled < width {
+            let grown = filled + 1;
             return Cursor {
                 m: m,
                 at: next,
-                filled: filled + 1,
+                filled: grown,
             };
         }
         Cursor {

@@ -1,9 +1,9 @@
 use mathlib.Core.Path.{_≡_, sym, _∙_}
 use mathlib.Core.Bool.{true}
 use borrow.Author.Tests.{not-true, not-false}
+use borrow.Author.Needs.{needs}
 use Rattle.model.specs.GateStores.{soundGate}
 use Rattle.gate_store.proofs.Sizes.{not-thirty, unsound, misfit, fits}
-use borrow.Author.Needs.{needs}
 use Rattle.gate_store.proofs.gate_refusal.Statement.{statement}
 use Rattle.gate_store.proofs.gate_refusal.Tie as tie
 

@@ -1,12 +1,12 @@
 use mathlib.Core.Path.{_≡_, sym, _∙_}
 use native.Mathlib.Omega.{arith}
 use borrow.Author.Tests.{eq-eqb, ne-eqb}
+use borrow.Author.Needs.{needs}
 use Rattle.laws.proofs.Tests.{stands, goes-on}
 use Rattle.model.specs.Refusals.{bankRefusal}
 use Rattle.model.specs.GateCalls.{gateRefusal, pairRefusal}
 use Rattle.stores.proofs.Sizes.{at-least-three}
 use Rattle.gate_store.proofs.Sizes.{thirty}
-use borrow.Author.Needs.{needs}
 use Rattle.gate_store.proofs.pair_refusal.Statement.{statement}
 use Rattle.gate_store.proofs.pair_refusal.Tie as tie
 

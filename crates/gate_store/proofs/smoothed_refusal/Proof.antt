@@ -1,10 +1,11 @@
-use mathlib.Core.Path.{_≡_, sym, _∙_}
+use mathlib.Core.Path.{_≡_, sym, ap, _∙_}
+use Prim.Native.Nat.{ℕ}
 use native.Mathlib.Omega.{arith}
-use borrow.Author.Tests.{lt-ltb, le-ltb}
+use borrow.Author.Needs.{needs}
 use Rattle.laws.proofs.Tests.{stands, goes-on}
 use Rattle.model.specs.GateCalls.{gateRefusal}
+use Rattle.gate_store.specs.Checks.{channelRefusal}
 use Rattle.gate_store.proofs.Sizes.{thirty}
-use borrow.Author.Needs.{needs}
 use Rattle.gate_store.proofs.smoothed_refusal.Statement.{statement}
 use Rattle.gate_store.proofs.smoothed_refusal.Tie as tie
 
@@ -26,13 +27,14 @@ shared-slice-read-wide c = let e = c .before in
 wide-requires : tie.Need-wide-requires
 wide-requires c κs = search needs
 
+channel-refusal-requires : tie.Need-channel-refusal-requires
+channel-refusal-requires c κs = search needs
+
 returns-2 : tie.Need-returns-2
 returns-2 c = let w = c .before in
-    goes-on _ _ 0 (none (w .before .before)) (simp (lt-ltb _ _ (rw (w .wide .ensures) at (c .if2 .taken))))
-
-returns-3 : tie.Need-returns-3
-returns-3 c = let w = c .before in
-    goes-on _ _ 7 (none (w .before .before)) (simp (le-ltb _ _ (rw (w .wide .ensures) at (c .if2 .left))))
+    let e = w .before .before in
+    let s = e .before .before .before .before in
+    goes-on _ _ _ (none e) (c .channel-refusal .ensures ∙ ap (λ (n : ℕ). channelRefusal n (s .args .k)) (w .wide .ensures))
 
 pub smoothed-refusal-spec : {M : Type 1} → statement M
 smoothed-refusal-spec =
@@ -42,5 +44,5 @@ smoothed-refusal-spec =
     returns
     shared-slice-read-wide
     wide-requires
-    returns-2
-    returns-3)
+    channel-refusal-requires
+    returns-2)

@@ -2,9 +2,9 @@ use mathlib.Core.Path.{_≡_, refl, ap, ap₂, _∙_}
 use Prim.Native.Nat.{ℕ, _≤_, _-_, _+_, _*_}
 use native.Mathlib.Omega.{arith}
 use lib.ListN.{getD}
+use borrow.Author.Needs.{needs}
 use Rattle.model.specs.GateStores.{mAt, lookSize, lookStart}
 use Rattle.gate_store.proofs.Sizes.{Sized, sized, start-more}
-use borrow.Author.Needs.{needs}
 use Rattle.gate_store.proofs.sound.f_len.Statement.{statement}
 use Rattle.gate_store.proofs.sound.f_len.Tie as tie
 

@@ -1,7 +1,7 @@
 use mathlib.Core.Path.{sym, _∙_}
 use borrow.Author.Tests.{not-true, not-false}
-use Rattle.gate_store.proofs.Sizes.{head-fails, triples-decide}
 use borrow.Author.Needs.{needs}
+use Rattle.gate_store.proofs.Sizes.{head-fails, triples-decide}
 use Rattle.gate_store.proofs.sound.gate_sound.Statement.{statement}
 use Rattle.gate_store.proofs.sound.gate_sound.Tie as tie
 

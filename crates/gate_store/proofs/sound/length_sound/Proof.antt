@@ -1,8 +1,8 @@
 use mathlib.Core.Path.{sym, _∙_}
 use native.Mathlib.Omega.{arith}
 use borrow.Author.Tests.{not-true, not-false}
-use Rattle.gate_store.proofs.Sizes.{length-unused, triple-fails, new-decides}
 use borrow.Author.Needs.{needs}
+use Rattle.gate_store.proofs.Sizes.{length-unused, triple-fails, new-decides}
 use Rattle.gate_store.proofs.sound.length_sound.Statement.{statement}
 use Rattle.gate_store.proofs.sound.length_sound.Tie as tie
 

@@ -5,10 +5,10 @@ use Prim.Native.Nat.{ℕ, _≤_, _-_}
 use native.Mathlib.Omega.{arith}
 use lib.Dec.{eqb}
 use borrow.Author.Tests.{eq-eqb, ne-eqb}
+use borrow.Author.Needs.{needs}
 use Rattle.laws.specs.Tests.{allBelow}
 use Rattle.laws.proofs.Tests.{all-more, all-fails, all-done}
 use Rattle.model.specs.GateStores.{mAt}
-use borrow.Author.Needs.{needs}
 use Rattle.gate_store.proofs.sound.new_length.Statement.{statement}
 use Rattle.gate_store.proofs.sound.new_length.Tie as tie
 

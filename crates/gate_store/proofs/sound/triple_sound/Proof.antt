@@ -1,6 +1,6 @@
 use Prim.Native.Nat.{_*_}
 use native.Mathlib.Omega.{arith}
-use borrow.Author.Tests.{lt-ltb, le-ltb, le-leb, lt-leb, eq-eqb, ne-eqb}
+use borrow.Author.Tests.{lt-ltb, le-ltb, le-leb, lt-leb}
 use borrow.Author.Needs.{needs}
 use Rattle.gate_store.proofs.sound.triple_sound.Statement.{statement}
 use Rattle.gate_store.proofs.sound.triple_sound.Tie as tie

@@ -3,11 +3,11 @@ use mathlib.Core.Bool.{true}
 use Prim.Native.Nat.{_≤_, _-_}
 use native.Mathlib.Omega.{arith}
 use borrow.Author.Tests.{not-true, not-false}
+use borrow.Author.Needs.{needs}
 use Rattle.laws.specs.Tests.{allBelow}
 use Rattle.laws.proofs.Tests.{all-more, all-fails, all-done}
 use Rattle.gate_store.specs.Checks.{soundLength}
 use Rattle.gate_store.proofs.Sizes.{triples-are}
-use borrow.Author.Needs.{needs}
 use Rattle.gate_store.proofs.sound.triples_sound.Statement.{statement}
 use Rattle.gate_store.proofs.sound.triples_sound.Tie as tie
 

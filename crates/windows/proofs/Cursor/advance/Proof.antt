@@ -16,8 +16,8 @@ add-next c = search needs
 rem-next : tie.Need-rem-next
 rem-next c = search needs
 
-add-t9 : tie.Need-add-t9
-add-t9 c = search needs
+add-grown : tie.Need-add-grown
+add-grown c = search needs
 
 returns : tie.Need-returns
 returns c =
@@ -32,4 +32,4 @@ returns-2 c =
     λ i. record { m = s .m; at = turned (s .m) (s .at); filled = e i }
 
 pub advance-spec : {M : Type 1} → statement M
-advance-spec = tie.close (tie.spec mul-width add-next rem-next add-t9 returns returns-2)
+advance-spec = tie.close (tie.spec mul-width add-next rem-next add-grown returns returns-2)

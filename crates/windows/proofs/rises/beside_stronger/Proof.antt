@@ -1,4 +1,4 @@
--- Assumes nothing.
+-- The four neighbours in the order of the definition; each way out leaves the tests before it false. Assumes nothing.
 use mathlib.Core.Path.{_≡_, sym, _∙_}
 use mathlib.Core.Bool.{Bool, true, false}
 use Prim.Native.Nat.{ℕ, _<_}

@@ -1,4 +1,4 @@
--- Assumes nothing.
+-- Each way out is one test of the definition; the sums are read where they lie in the part. Assumes nothing.
 use mathlib.Core.Path.{_≡_, sym, ap, _∙_}
 use mathlib.Core.Bool.{Bool, true, false, not}
 use mathlib.Core.List.{List}
@@ -19,7 +19,6 @@ use borrow.Author.Needs.{needs}
 use Rattle.windows.proofs.rises.look_rises.Statement.{statement}
 use Rattle.windows.proofs.rises.look_rises.Tie as tie
 
--- src/rises.rt:45:18
 abbrev L : tie.Start → List Float
 L s = now (s .args .look)
 
@@ -53,85 +52,66 @@ full c = eq-eqb (c .before .before .args .c .filled) (2 * c .before .before .arg
 mul-if1 : tie.Need-mul-if1
 mul-if1 c = search needs
 
--- src/rises.rt:46:9
 returns : tie.Need-returns
 unfolding lookRises
 returns c = rw (ne-eqb (c .before .before .args .c .filled) (2 * c .before .before .args .c .m) (c .if1 .taken))
 
--- src/rises.rt:48:30
 int-to-float-level : tie.Need-int-to-float-level
 unfolding inFloat
 int-to-float-level c = le→leb (c .before .before .before .args .c .m) (2 ^ 53) (omega arith)
 
--- src/rises.rt:49:18
 mul-recent : tie.Need-mul-recent
 mul-recent c = search needs
 
--- src/rises.rt:49:18
 mul-recent-2 : tie.Need-mul-recent-2
 mul-recent-2 c = search needs
 
--- src/rises.rt:50:20
 add-previous : tie.Need-add-previous
 add-previous c = search needs
 
--- src/rises.rt:51:15
 add-if2 : tie.Need-add-if2
 add-if2 c = search needs
 
--- src/rises.rt:51:10
 mul-if2 : tie.Need-mul-if2
 mul-if2 c = search needs
 
--- src/rises.rt:51:10
 shared-slice-read-if2 : tie.Need-shared-slice-read-if2
 shared-slice-read-if2 c = search needs
 
--- src/rises.rt:52:9
 returns-2 : tie.Need-returns-2
 unfolding lookRises
 returns-2 c = let s = c .before .before .before .before .before in rw (full (c .before .before .before), recent-is s false (not-true (R s) (c .if2 .taken)))
 
--- src/rises.rt:54:15
 add-if3 : tie.Need-add-if3
 add-if3 c = search needs
 
--- src/rises.rt:54:10
 mul-if3 : tie.Need-mul-if3
 mul-if3 c = search needs
 
--- src/rises.rt:54:10
 shared-slice-read-if3 : tie.Need-shared-slice-read-if3
 shared-slice-read-if3 c = search needs
 
--- src/rises.rt:55:9
 returns-3 : tie.Need-returns-3
 unfolding lookRises
 returns-3 c =
     let s = c .before .before .before .before .before .before .before in
     rw (full (c .before .before .before .before .before), recent-is s true (not-false (R s) (c .before .before .if2 .left)), previous-is s false (not-true (P s) (c .if3 .taken)))
 
--- src/rises.rt:57:22
 mul-beside-stronger : tie.Need-mul-beside-stronger
 mul-beside-stronger c = search needs
 
--- src/rises.rt:57:22
 sub-beside-stronger : tie.Need-sub-beside-stronger
 sub-beside-stronger c = search needs
 
--- src/rises.rt:57:22
 part-beside-stronger-start : tie.Need-part-beside-stronger-start
 part-beside-stronger-start c = search needs
 
--- src/rises.rt:57:22
 part-beside-stronger-end : tie.Need-part-beside-stronger-end
 part-beside-stronger-end c = search needs
 
--- src/rises.rt:57:6
 beside-stronger-requires : tie.Need-beside-stronger-requires
 beside-stronger-requires c κs = search needs
 
--- src/rises.rt:39:1
 returns-4 : tie.Need-returns-4
 unfolding lookRises
 returns-4 c =
