@@ -1,0 +1,32 @@
+use model::Reading;
+pub fn gate_update(
+    bank: &[u16],
+    bank_f: &[f64],
+    gate: &mut [u16],
+    gate_f: &mut [f64],
+    power_db: &[f64],
+    power: &[f32],
+    rise: &mut [u8],
+    drop: &mut [u8],
+) -> u16 {
+    0
+}
+
+pub fn gate_hold(
+    bank: &[u16],
+    bank_f: &[f64],
+    gate: &[u16],
+    gate_f: &[f64],
+    rise: &mut [u8],
+    drop: &mut [u8],
+) -> u16 {
+    0
+}
+
+pub fn smoothed_db(gate: &[u16], gate_f: &[f64], k: usize) -> Reading {
+    Reading::Refused(0)
+}
+
+pub fn ema_rise(bank: &[u16], bank_f: &[f64], gate: &[u16], gate_f: &[f64], k: usize) -> Reading {
+    Reading::Refused(0)
+}
