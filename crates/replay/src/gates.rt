@@ -38,25 +38,44 @@ fn fill_lengths(list: &[u8], at: usize, lengths: &mut [u16]) {
     }
 }
 
-// 6, n, f64 length, on, off, early, number of lengths, lengths, answer: a fresh gate.
-pub fn replay_gate_new(list: &[u8], r: Replay, gate: &mut [u16], gate_f: &mut [f64]) -> Replay {
-    let mut lengths = [0u16; MOST_LENGTHS];
-    let count = index(byte_at(list, after(r.at, 10)));
-    if count > MOST_LENGTHS {
-        return ended(r);
-    }
-    fill_lengths(list, after(r.at, 11), &mut lengths[..count]);
-    let answer = gate_store::making::gate_new(
+// The answer for the settings of a record and these lengths.
+fn made(list: &[u8], at: usize, gate: &mut [u16], gate_f: &mut [f64], lengths: &[u16]) -> u16 {
+    gate_store::making::gate_new(
         gate,
         gate_f,
-        index(byte_at(list, after(r.at, 1))),
-        level_at(list, after(r.at, 4)),
-        level_at(list, after(r.at, 6)),
-        level_at(list, after(r.at, 8)),
-        &lengths[..count],
-    );
-    let due = byte_at(list, after(r.at, 11 + 2 * count));
-    passed(r, 12 + 2 * count, one(answer != wide(due)))
+        index(byte_at(list, after(at, 1))),
+        level_at(list, after(at, 4)),
+        level_at(list, after(at, 6)),
+        level_at(list, after(at, 8)),
+        lengths,
+    )
+}
+
+// 6, n, f64 length, on, off, early, number of lengths, lengths, answer: a fresh gate.
+fn make_gate(
+    list: &[u8],
+    r: Replay,
+    gate: &mut [u16],
+    gate_f: &mut [f64],
+    lengths: &mut [u16],
+    count: u8,
+) -> Replay {
+    fill_lengths(list, after(r.at, 11), lengths);
+    let answer = made(list, r.at, gate, gate_f, lengths);
+    let bytes = 2 * index(count);
+    let due = byte_at(list, after(r.at, 11 + bytes));
+    passed(r, 12 + bytes, one(answer != wide(due)))
+}
+
+// A list that asks for more lengths has ended.
+pub fn replay_gate_new(list: &[u8], r: Replay, gate: &mut [u16], gate_f: &mut [f64]) -> Replay {
+    let mut lengths = [0u16; MOST_LENGTHS];
+    let count = byte_at(list, after(r.at, 10));
+    let n = index(count);
+    if n > MOST_LENGTHS {
+        return ended(r);
+    }
+    make_gate(list, r, gate, gate_f, &mut lengths[..n], count)
 }
 
 // The number, answer, n rise bytes, n drop bytes.
@@ -140,5 +159,9 @@ pub fn replay_gate_reading(
 pub fn replay_gate_stores(list: &[u8], r: Replay, gate: &[u16], gate_f: &[f64]) -> Replay {
     let sums = one(sum_of(gate) != eight_bytes(list, after(r.at, 1)));
     let floats = differing(list, after(r.at, 9), gate_f);
-    passed(r, after(9, gate_f.len() * 8), wrapping_add_u64(sums, floats))
+    passed(
+        r,
+        after(9, gate_f.len() * 8),
+        wrapping_add_u64(sums, floats),
+    )
 }

@@ -1,4 +1,5 @@
 use model::Reading;
+
 pub fn gate_update(
     bank: &[u16],
     bank_f: &[f64],
