@@ -103,7 +103,7 @@ pub fn replay_gate_update(
     rise: &mut [u8],
     drop: &mut [u8],
 ) -> Replay {
-    let answer = crate::x_gate::gate_update(bank, bank_f, gate, gate_f, db, power, rise, drop);
+    let answer = gate::gate_update(bank, bank_f, gate, gate_f, db, power, rise, drop);
     passed_marks(list, r, answer, rise, drop)
 }
 
@@ -118,7 +118,7 @@ pub fn replay_gate_hold(
     rise: &mut [u8],
     drop: &mut [u8],
 ) -> Replay {
-    let answer = crate::x_gate::gate_hold(bank, bank_f, gate, gate_f, rise, drop);
+    let answer = gate::gate_hold(bank, bank_f, gate, gate_f, rise, drop);
     passed_marks(list, r, answer, rise, drop)
 }
 
@@ -131,8 +131,8 @@ fn reading(
     k: usize,
 ) -> Reading {
     match kind {
-        0 => crate::x_gate::smoothed_db(gate, gate_f, k),
-        _ => crate::x_gate::ema_rise(bank, bank_f, gate, gate_f, k),
+        0 => gate::smoothed_db(gate, gate_f, k),
+        _ => gate::ema_rise(bank, bank_f, gate, gate_f, k),
     }
 }
 

@@ -4,7 +4,6 @@ mod gates;
 mod hop;
 mod list;
 mod records;
-mod x_gate;
 
 use records::GATE_LEN;
 use records::MOST;
