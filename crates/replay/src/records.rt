@@ -30,8 +30,8 @@ pub const MOST_F_LEN: usize = 136;
 
 pub const GATE_LEN: usize = 30;
 
-// The largest gate has 3 channels and the lengths 1, 5 and 375.
-pub const MOST_GATE_F_LEN: usize = 2307;
+// The largest gate has 3 channels and the lengths 1, 5 and 375; its store is lent one too long, too.
+pub const MOST_GATE_F_LEN: usize = 2308;
 
 pub fn wide(x: u8) -> u16 {
     x as u16
