@@ -1,13 +1,12 @@
 -- The gate's calls: what one that is not refused has shown, and what each answers and leaves. Assumes nothing.
 use mathlib.Core.Path.{_≡_, refl, sym, ap, subst, _∙_}
-use mathlib.Core.Bool.{Bool, not, _&&_, _||_}
+use mathlib.Core.Bool.{not, _||_}
 use mathlib.Core.List.{List}
 use Prim.Native.Nat.{ℕ, zero, suc, _<_}
 use native.Mathlib.Omega.{arith}
-use lib.Dec.{eqb, ltb}
+use lib.Dec.{ltb}
 use lib.ListN.{length, getD}
-use lib.IntN.{pos}
-use lib.Ieee.{Float, binary64, ofInt}
+use lib.Ieee.{Float}
 use borrow.Author.Tests.{ltb-true, not-false}
 use Rattle.laws.specs.Lists.{one}
 use Rattle.laws.specs.Tests.{differ, first}
@@ -15,17 +14,17 @@ use Rattle.laws.proofs.Tests.{neither, passed, same-of, or-l, or-r}
 use Rattle.model.specs.Bank.{FloorBank}
 use Rattle.model.specs.Stores.{bankOf}
 use Rattle.model.specs.Refusals.{bankRefusal}
-use Rattle.model.specs.Gate.{Gate, gateStep, riseBytes, dropBytes}
-use Rattle.model.specs.GateStores.{gateU, gateF, gateOf}
+use Rattle.model.specs.Gate.{Gate, gateStep}
+use Rattle.model.specs.GateStores.{gateOf}
 use Rattle.model.specs.GateCalls.{GateHop, gateRefusal, pairRefusal, gateUpdateRefusal, holdRefusal, gateLeaves, marksOf, gateUpdate, gateHold}
 use Rattle.stores.proofs.Goods.{ready}
 use Rattle.gate_store.specs.GoodGate.{GoodGate, GateReady}
-use Rattle.gate_store.specs.Checks.{twoLong, fourLong, smoothedRefusal, earlyRefusal}
+use Rattle.gate_store.specs.Checks.{smoothedRefusal, earlyRefusal}
 use Rattle.gate_store.proofs.Goods.{gate-ready, n-of}
 use Rattle.gate_store.proofs.Fresh.{good-gate-step}
+use Rattle.gate_store.proofs.Looks.{held-ready, held-is}
 use Rattle.gate.specs.Paired.{Paired, Marked}
 use Rattle.gate.specs.Steps.{Holds}
-use Rattle.gate.proofs.Stages.{held-ready, held-gate}
 
 -- ---- what a call that is not refused has shown
 
@@ -139,10 +138,10 @@ module _ (bu : List ℕ) (bf : List Float) (gu : List ℕ) (gf : List Float) whe
     after-paired =
         record {
           bank = p .bank;
-          gate = held-ready (gateStep (gateOf gu gf) db power) after-good u′ f′ q;
+          gate = held-ready u′ f′ (gateStep (gateOf gu gf) db power) after-good (q .u16s) (q .floats);
           same = p .same ∙ sym after-n;
         }
 
     pub after-marked : (b : FloorBank) (rise drop : List ℕ) → Marked (gateOf u′ f′) b rise drop → Marked (gateStep (gateOf gu gf) db power) b rise drop
     after-marked b rise drop m =
-        subst (λ (g : Gate). Marked g b rise drop) (held-gate (gateStep (gateOf gu gf) db power) after-good u′ f′ q) m
+        subst (λ (g : Gate). Marked g b rise drop) (held-is u′ f′ (gateStep (gateOf gu gf) db power) after-good (q .u16s) (q .floats)) m

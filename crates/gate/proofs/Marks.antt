@@ -2,15 +2,15 @@
 use mathlib.Core.Path.{_≡_, refl, sym, ap, ap₂, _∙_}
 use mathlib.Core.Bool.{Bool, true, false, not, _&&_, _||_}
 use mathlib.Core.List.{List}
-use Prim.Native.Nat.{ℕ, _+_, _<_}
+use Prim.Native.Nat.{ℕ, _<_}
 use native.Mathlib.Nat.{zero-add}
 use native.Mathlib.Omega.{arith}
 use lib.Dec.{eqb}
-use lib.ListN.{length, getD}
+use lib.ListN.{getD}
 use lib.IntN.{pos}
 use lib.Ieee.{Float, nan, binary64, add, le, lt, ofBits, ofInt}
 use borrow.Author.Tests.{eq-eqb, ne-eqb}
-use Rattle.laws.specs.Lists.{part, tab, one}
+use Rattle.laws.specs.Lists.{tab, one}
 use Rattle.laws.proofs.Lists.{getD-part}
 use Rattle.laws.proofs.Tabs.{tab-same}
 use Rattle.laws.proofs.Defaults.{getD-any}

@@ -1,7 +1,7 @@
 -- The loop that steps the windows of each length: what it asks, and what a turn leaves. Assumes nothing.
 use mathlib.Core.Path.{_≡_, refl, sym, ap, _∙_}
 use mathlib.Core.List.{List, map}
-use Prim.Native.Nat.{ℕ, _+_, _-_, _*_, _<_, _≤_}
+use Prim.Native.Nat.{ℕ, _+_, _-_, _*_, _<_}
 use native.Mathlib.Omega.{arith}
 use lib.ListN.{length, getD, set}
 use lib.Ieee.{Float}
@@ -9,14 +9,14 @@ use Rattle.laws.specs.Lists.{part, splice}
 use Rattle.laws.proofs.Lists.{width}
 use Rattle.model.specs.Windows.{PowerLooks, stepLook}
 use Rattle.model.specs.Gate.{sampleOf}
-use Rattle.model.specs.GateStores.{lookSize, lookF, mAt, gateU, gateF, gateOf}
+use Rattle.model.specs.GateStores.{lookSize, lookF, gateU, gateF, gateOf}
 use Rattle.windows.specs.declared.Cursor.{Cursor}
 use Rattle.windows.specs.Looks.{cursorIn, steppedLook}
 use Rattle.gate_store.specs.GoodGate.{GoodLook, GateReady}
 use Rattle.gate_store.proofs.Encode.{startAt, sizeAt, lookIn}
 use Rattle.gate_store.proofs.Goods.{look-good}
-use Rattle.gate_store.proofs.Looks.{withLooks, Steady, steady, looksU, looksF, looks-long-f, looks-lent, looks-ahead, looks-turn-u, looks-turn-f, looks-end-u, looks-end-f}
-use Rattle.gate_store.proofs.Fresh.{good-step-look, step-look-m}
+use Rattle.gate_store.proofs.Looks.{Steady, steady-step, looksU, looksF, looks-long-f, looks-lent, looks-ahead, looks-turn-u, looks-turn-f, looks-end-u, looks-end-f}
+use Rattle.gate_store.proofs.Fresh.{withLooks, good-step-look}
 use Rattle.gate.specs.Paired.{cursorOf}
 use Rattle.gate.specs.Steps.{Holds, looksStep}
 use Rattle.gate.proofs.Lengths.{lent-looks}
@@ -25,9 +25,16 @@ use Rattle.gate.proofs.Lengths.{lent-looks}
 abbrev pub hopOf : List ℕ → List Float → PowerLooks → PowerLooks
 hopOf u power = stepLook (getD u 0 0) (sampleOf power)
 
+-- what the turn of length j does to u₁ and f₁: next is the cursor and l the part that the hop leaves, w its width
+pub record Turned (u : List ℕ) (f power : List Float) (j : ℕ) (u₁ : List ℕ) (f₁ : List Float) (a w : ℕ) (next : Cursor) (l : List Float) : Type 0 where
+  pub at-small : next .at < 65536
+  pub filled-small : next .filled < 65536
+  pub u16s : set (set u₁ (6 + 3 * j + 1) (next .at)) (6 + 3 * j + 2) (next .filled) ≡ looksU u f (hopOf u power) (j + 1)
+  pub floats : splice a w f₁ l ≡ looksF u f (hopOf u power) (j + 1)
+
 module _ (u : List ℕ) (f power : List Float) (r : GateReady u f) where
   pub hop-steady : Steady u f (hopOf u power)
-  hop-steady = steady u f (hopOf u power) r (step-look-m (getD u 0 0) (sampleOf power)) (good-step-look (getD u 0 0) (sampleOf power))
+  hop-steady = steady-step u f (sampleOf power) r
 
   -- the turn of length j: u₁ and f₁ are what the turns before left
   module _ (j : ℕ) (h : j < getD u 5 0) (u₁ : List ℕ) (f₁ : List Float) (s : u₁ ≡ looksU u f (hopOf u power) j) (t : f₁ ≡ looksF u f (hopOf u power) j) where
@@ -47,11 +54,8 @@ module _ (u : List ℕ) (f power : List Float) (r : GateReady u f) where
           filled = looks-ahead u f (hopOf u power) r hop-steady j (6 + 3 * j + 2) (omega arith) i;
         })
 
-    pub next-good : GoodLook (getD u 0 0) (hopOf u power (lookIn u f j))
+    next-good : GoodLook (getD u 0 0) (hopOf u power (lookIn u f j))
     next-good = good-step-look (getD u 0 0) (sampleOf power) (lookIn u f j) (look-good u f j r h)
-
-    next-m : hopOf u power (lookIn u f j) .m ≡ mAt u j
-    next-m = step-look-m (getD u 0 0) (sampleOf power) (lookIn u f j)
 
     -- what the step of the lent part leaves; a is where it begins, c its cursor
     module _ (a : ℕ) (c next : Cursor) (l : List Float) (d : length power ≡ getD u 0 0) (q : c ≡ cursorOf u₁ j) (b : a ≡ startAt u j)
@@ -69,23 +73,20 @@ module _ (u : List ℕ) (f power : List Float) (r : GateReady u f) where
       next-is : next ≡ cursorIn (hopOf u power (lookIn u f j))
       next-is = ap (λ (p : Cursor × List Float). p .0) both
 
-      pub next-small : (next .at < 65536) × (next .filled < 65536)
-      next-small =
+      pub turned : Turned u f power j u₁ f₁ a (a + lookSize (length power) (c .m) - a) next l
+      turned =
           let g = next-good in
-          (omega (arith, ap (λ (x : Cursor). x .at) next-is, g .cursor, g .few), omega (arith, ap (λ (x : Cursor). x .filled) next-is, g .filled, g .few))
-
-      pub turned-u : (u₂ : List ℕ) → u₂ ≡ set (set u₁ (6 + 3 * j + 1) (next .at)) (6 + 3 * j + 2) (next .filled) → u₂ ≡ looksU u f (hopOf u power) (j + 1)
-      turned-u u₂ g =
-          g
-          ∙ (λ i. set (set (s i) (6 + 3 * j + 1) (next-is i .at)) (6 + 3 * j + 2) (next-is i .filled))
-          ∙ looks-turn-u u f (hopOf u power) r hop-steady j h
-
-      pub turned-f : (f₂ : List Float) → f₂ ≡ splice a (a + lookSize (length power) (c .m) - a) f₁ l → f₂ ≡ looksF u f (hopOf u power) (j + 1)
-      turned-f f₂ g =
-          g
-          ∙ ap (λ (w : ℕ). splice a w f₁ l) (width a (lookSize (length power) (c .m)))
-          ∙ (λ i. splice (b i) (lookSize (d i) ((q ∙ turn-cursor) i .m)) (t i) (both i .1))
-          ∙ looks-turn-f u f (hopOf u power) r hop-steady j h
+          record {
+            at-small = omega (arith, ap (λ (x : Cursor). x .at) next-is, g .cursor, g .few);
+            filled-small = omega (arith, ap (λ (x : Cursor). x .filled) next-is, g .filled, g .few);
+            u16s =
+                (λ i. set (set (s i) (6 + 3 * j + 1) (next-is i .at)) (6 + 3 * j + 2) (next-is i .filled))
+                ∙ looks-turn-u u f (hopOf u power) r hop-steady j h;
+            floats =
+                ap (λ (w : ℕ). splice a w f₁ l) (width a (lookSize (length power) (c .m)))
+                ∙ (λ i. splice (b i) (lookSize (d i) ((q ∙ turn-cursor) i .m)) (t i) (both i .1))
+                ∙ looks-turn-f u f (hopOf u power) r hop-steady j h;
+          }
 
   -- all lengths have had their turn
   looks-are : looksStep power (gateOf u f) ≡ withLooks (gateOf u f) (map (hopOf u power) (gateOf u f .looks))

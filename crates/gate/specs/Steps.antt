@@ -1,4 +1,4 @@
--- The gate update in the steps that the code takes; `steps-are` in proofs/Stages.antt shows that together they are `gateStep`.
+-- The gate update in the steps that the code takes; `steps-are` in proofs/Stages.antt shows that together, with `started` set, they are `gateStep`.
 use mathlib.Core.Path.{_≡_}
 use mathlib.Core.List.{List, map}
 use Prim.Native.Nat.{ℕ}
@@ -11,11 +11,11 @@ use Rattle.model.specs.Gate.{Gate, dbAfter, sampleOf}
 use Rattle.model.specs.GateStores.{gateU, gateF}
 
 -- the gate with these
-abbrev pub with : Gate → ℕ → List PowerLooks → List Float → Gate
-with g started′ looks′ smooth′ =
+abbrev pub with : Gate → List PowerLooks → List Float → Gate
+with g looks′ smooth′ =
     record {
       n = g .n;
-      started = started′;
+      started = g .started;
       on = g .on;
       off = g .off;
       early = g .early;
@@ -24,13 +24,10 @@ with g started′ looks′ smooth′ =
     }
 
 unfoldable pub smoothStep : List Float → Gate → Gate
-smoothStep db g = with g (g .started) (g .looks) (tab (g .n) (λ k. dbAfter (g .started) (getD (g .smooth) k f0) (getD db k f0)))
+smoothStep db g = with g (g .looks) (tab (g .n) (λ k. dbAfter (g .started) (getD (g .smooth) k f0) (getD db k f0)))
 
 unfoldable pub looksStep : List Float → Gate → Gate
-looksStep power g = with g (g .started) (map (stepLook (g .n) (sampleOf power)) (g .looks)) (g .smooth)
-
-unfoldable pub startStep : Gate → Gate
-startStep g = with g 1 (g .looks) (g .smooth)
+looksStep power g = with g (map (stepLook (g .n) (sampleOf power)) (g .looks)) (g .smooth)
 
 -- the two stores hold g
 pub record Holds (g : Gate) (u : List ℕ) (f : List Float) : Type 0 where

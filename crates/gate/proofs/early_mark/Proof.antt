@@ -3,7 +3,6 @@ use mathlib.Core.Path.{_≡_, sym, ap, _∙_}
 use mathlib.Core.Bool.{Bool}
 use native.Mathlib.Omega.{arith}
 use lib.IntN.{pos}
-use lib.ListN.{getD}
 use lib.Ieee.{Float, binary64, ofInt}
 use Rattle.laws.specs.Lists.{one}
 use Rattle.model.specs.Stores.{bankOf}

@@ -1,5 +1,5 @@
 -- `gate::ema_rise` meets its contract. Assumes nothing.
-use mathlib.Core.Path.{_≡_, sym, ap, _∙_}
+use mathlib.Core.Path.{sym, ap, _∙_}
 use mathlib.Core.Bool.{not, _&&_}
 use Prim.Native.Nat.{ℕ}
 use lib.Dec.{eqb}

@@ -1,6 +1,5 @@
 -- `gate::gate_hold` meets its contract. Assumes nothing.
 use mathlib.Core.Path.{sym, _∙_}
-use lib.ListN.{length}
 use Rattle.gate.proofs.Calls.{hold-asked, hold-refused, held-marks}
 use borrow.Author.Needs.{needs}
 use Rattle.gate.proofs.gate_hold.Statement.{statement}
@@ -10,14 +9,11 @@ hold-refusal-requires : tie.Need-hold-refusal-requires
 hold-refusal-requires c κs = search needs
 
 returns : tie.Need-returns
-returns c = let q = c .before in
-    let s = q .before .before .before .before .before .before .before in
-    hold-refused (s .args .bank .now) (s .args .bank-f .now) (s .args .gate .now) (s .args .gate-f .now) (s .args .rise .now) (s .args .drop .now) (q .hold-refusal .result) (q .hold-refusal .ensures) (c .if1 .taken)
+returns c = hold-refused _ _ _ _ _ _ _ (c .before .hold-refusal .ensures) (c .if1 .taken)
 
 judge-requires : tie.Need-judge-requires
 judge-requires c κs = let e = c .before .before in
-    let s = e .before .before .before .before .before .before .before .before in
-    hold-asked (s .args .bank .now) (s .args .bank-f .now) (s .args .gate .now) (s .args .gate-f .now) (length (s .args .rise .now)) (length (s .args .drop .now)) (sym (e .before .hold-refusal .ensures) ∙ e .if1 .left)
+    hold-asked _ _ _ _ _ _ (sym (e .before .hold-refusal .ensures) ∙ e .if1 .left)
 
 same-length : tie.Need-same-length
 same-length c = search needs
@@ -28,8 +24,7 @@ same-length-2 c = search needs
 returns-2 : tie.Need-returns-2
 returns-2 c = let j = c .before .before .before .before in
     let e = j .before .before .before in
-    let s = e .before .before .before .before .before .before .before .before in
-    held-marks (s .args .bank .now) (s .args .bank-f .now) (s .args .gate .now) (s .args .gate-f .now) (s .args .rise .now) (s .args .drop .now) _ _ (sym (e .before .hold-refusal .ensures) ∙ e .if1 .left) (j .judge .ensures)
+    held-marks _ _ _ _ _ _ _ _ (sym (e .before .hold-refusal .ensures) ∙ e .if1 .left) (j .judge .ensures)
 
 pub gate-hold-spec : {M : Type 1} → statement M
 gate-hold-spec =

@@ -1,6 +1,6 @@
 -- `gate::judge::rise_at` meets its contract: early rise, or else window rise. Assumes nothing.
 use mathlib.Core.Path.{_≡_, sym, ap, _∙_}
-use mathlib.Core.Bool.{Bool, true, false, _||_}
+use mathlib.Core.Bool.{Bool, _||_}
 use native.Mathlib.Omega.{arith}
 use Rattle.model.specs.Stores.{bankOf}
 use Rattle.model.specs.Gate.{earlyRise, windowRise}

@@ -1,6 +1,6 @@
 -- `gate::judge::window_rise` meets its contract: none of the first j lengths rises, and `at` is where length j begins. Assumes nothing.
 use mathlib.Core.Path.{_≡_, refl, sym, ap, _∙_}
-use mathlib.Core.Bool.{false}
+use mathlib.Core.Bool.{Bool, false}
 use mathlib.Core.List.{List}
 use Prim.Native.Nat.{ℕ, _+_, _-_, _*_, _<_, _≤_}
 use native.Mathlib.Numerals.{add-one}
@@ -11,8 +11,10 @@ use Rattle.laws.specs.Tests.{anyBelow}
 use Rattle.laws.proofs.Tests.{any-more, any-at, any-done}
 use Rattle.model.specs.Windows.{lookRises}
 use Rattle.model.specs.GateStores.{mAt, lookSize}
+use Rattle.windows.specs.declared.Cursor.{Cursor}
+use Rattle.gate_store.specs.GoodGate.{GateReady}
 use Rattle.gate_store.proofs.Encode.{startAt}
-use Rattle.gate_store.proofs.Goods.{GateSizes, sizes}
+use Rattle.gate_store.proofs.Goods.{sizes}
 use Rattle.gate.proofs.Lengths.{lent-within, lent-fits, lent-looks, small-length, risesAt, any-is}
 use borrow.Author.Needs.{needs}
 use Rattle.gate.proofs.judge.window_rise.Statement.{statement}
@@ -44,40 +46,49 @@ n-is l = l .before .before .before .wide .ensures
 lengths-are : (l : tie.At-loop Inv-loop μ-loop) → l .before .wide2 .result ≡ getD (U l) 5 0
 lengths-are l = l .before .wide2 .ensures
 
-head : (s : tie.Start Inv-loop μ-loop) → GateSizes (s .args .gate .now)
-head s = sizes (s .args .gate .now) (s .args .gate-f .now) (s .pre .0)
+ready : (l : tie.At-loop Inv-loop μ-loop) → GateReady (U l) (F l)
+ready l = start l .pre .0
 
 more : (c : tie.In-loop Inv-loop μ-loop) → c .before .loop .j < getD (U (c .before)) 5 0
 more c = omega (arith, c .loop-test .taken, lengths-are (c .before))
 
-m-is : (c : tie.After-cursor Inv-loop μ-loop) → c .cursor .result .m ≡ mAt (U (c .before .before)) (c .before .before .loop .j)
-m-is c = ap (λ x. x .m) (c .cursor .ensures)
+-- ---- once the cursor is read
 
-within : (c : tie.After-cursor Inv-loop μ-loop)
-    → c .before .before .loop .at + (2 * c .cursor .result .m * N (c .before .before) + N (c .before .before) + N (c .before .before)) ≤ length (F (c .before .before))
-within c = let l = c .before .before in
-    lent-within (U l) (F l) (start l .pre .0) (l .loop .j) (more (c .before)) (F l) refl refl (N l) (c .cursor .result .m) (l .loop .at) (n-is l) (m-is c) (l .loop .inv .1)
+abbrev at-loop : tie.After-cursor Inv-loop μ-loop → tie.At-loop Inv-loop μ-loop
+at-loop c = c .before .before
+
+m-is : (c : tie.After-cursor Inv-loop μ-loop) → c .cursor .result .m ≡ mAt (U (at-loop c)) (at-loop c .loop .j)
+m-is c = ap (λ (x : Cursor). x .m) (c .cursor .ensures)
 
 small : (c : tie.After-cursor Inv-loop μ-loop) → c .cursor .result .m ≤ 375
-small c = let l = c .before .before in
-    small-length (U l) (F l) (start l .pre .0) (l .loop .j) (more (c .before)) (c .cursor .result .m) (m-is c)
+small c = let l = at-loop c in
+    small-length (U l) (F l) (ready l) (l .loop .j) (more (c .before)) (c .cursor .result .m) (m-is c)
+
+within : (c : tie.After-cursor Inv-loop μ-loop)
+    → at-loop c .loop .at + (2 * c .cursor .result .m * N (at-loop c) + N (at-loop c) + N (at-loop c)) ≤ length (F (at-loop c))
+within c = let l = at-loop c in
+    lent-within (U l) (F l) (ready l) (l .loop .j) (more (c .before)) (F l) refl refl (N l) (c .cursor .result .m) (l .loop .at) (n-is l) (m-is c) (l .loop .inv .1)
+
+-- which lengths rise
+abbrev test : tie.At-loop Inv-loop μ-loop → ℕ → Bool
+test l = risesAt (U l) (F l) (start l .args .threshold) (start l .args .k)
 
 -- what the call says of length j
-answer : (c : tie.After-look-rises Inv-loop μ-loop)
-    → c .look-rises .result ≡ risesAt (U (c .before .before .before .before)) (F (c .before .before .before .before)) (start (c .before .before .before .before) .args .threshold) (start (c .before .before .before .before) .args .k) (c .before .before .before .before .loop .j)
+answer : (c : tie.After-look-rises Inv-loop μ-loop) → c .look-rises .result ≡ test (at-loop (c .before .before)) (at-loop (c .before .before) .loop .j)
 answer c = let a = c .before .before in
-    let l = a .before .before in
-    c .look-rises .ensures
-    ∙ (λ i. lookRises (n-is l i) (start l .args .threshold) (start l .args .k) (lent-looks (U l) (F l) (start l .pre .0) (l .loop .j) (more (a .before)) (F l) refl refl (N l) (l .loop .at) (a .cursor .result) (n-is l) (a .cursor .ensures) (l .loop .inv .1) i))
+    let l = at-loop a in
+    let looks = lent-looks (U l) (F l) (ready l) (l .loop .j) (more (a .before)) (F l) refl refl (N l) (l .loop .at) (a .cursor .result) (n-is l)
+    (a .cursor .ensures) (l .loop .inv .1) in
+    c .look-rises .ensures ∙ (λ i. lookRises (n-is l i) (start l .args .threshold) (start l .args .k) (looks i))
 
 shared-slice-read-wide : tie.Need-shared-slice-read-wide Inv-loop μ-loop
-shared-slice-read-wide c = omega (arith, head (c .before .before .before))
+shared-slice-read-wide c = omega (arith, c .before .before .before .pre .0 .long)
 
 wide-requires : tie.Need-wide-requires Inv-loop μ-loop
 wide-requires c κs = search needs
 
 shared-slice-read-wide-2 : tie.Need-shared-slice-read-wide-2 Inv-loop μ-loop
-shared-slice-read-wide-2 c = omega (arith, head (c .before .before .before .before .before))
+shared-slice-read-wide-2 c = omega (arith, c .before .before .before .before .before .pre .0 .long)
 
 wide-requires-2 : tie.Need-wide-requires-2 Inv-loop μ-loop
 wide-requires-2 c κs = search needs
@@ -87,7 +98,8 @@ unfolding anyBelow
 loop-holds c = (search needs, c .before .before .wide .ensures, refl)
 
 cursor-requires : tie.Need-cursor-requires Inv-loop μ-loop
-cursor-requires c κs = omega (arith, more c, head (start (c .before)))
+cursor-requires c κs = let l = c .before in
+    omega (arith, more c, ready l .long, sizes (U l) (F l) (ready l) .few)
 
 mul-e : tie.Need-mul-e Inv-loop μ-loop
 mul-e c = omega (arith, small c)
@@ -118,15 +130,18 @@ part-look-rises-end c = omega (arith, within c)
 
 look-rises-requires : tie.Need-look-rises-requires Inv-loop μ-loop
 look-rises-requires c κs = let a = c .before in
-    let l = a .before .before in
-    (lent-fits (U l) (F l) (start l .pre .0) (l .loop .j) (more (a .before)) (F l) refl refl (N l) (a .cursor .result .m) (l .loop .at) (n-is l) (m-is a) (l .loop .inv .1), omega (arith, n-is l, start l .pre .1))
+    let l = at-loop a in (
+      lent-fits (U l) (F l) (ready l) (l .loop .j) (more (a .before)) (F l) refl refl (N l) (a .cursor .result .m) (l .loop .at) (n-is l) (m-is a)
+          (l .loop .inv .1),
+      omega (arith, n-is l, start l .pre .1),
+    )
 
 returns : tie.Need-returns Inv-loop μ-loop
 returns c = let q = c .before in
-    let l = q .before .before .before .before in
-    let s = start l in
-    sym (any-at (risesAt (U l) (F l) (s .args .threshold) (s .args .k)) (getD (U l) 5 0) (l .loop .j) (more (q .before .before .before)) (sym (answer q) ∙ c .if1 .taken))
-    ∙ any-is (U l) (F l) (s .args .threshold) (s .args .k)
+    let a = q .before .before in
+    let l = at-loop a in
+    sym (any-at (test l) (getD (U l) 5 0) (l .loop .j) (more (a .before)) (sym (answer q) ∙ c .if1 .taken))
+    ∙ any-is (U l) (F l) (start l .args .threshold) (start l .args .k)
 
 add-j : tie.Need-add-j Inv-loop μ-loop
 add-j c = search needs
@@ -137,18 +152,16 @@ loop-less c = search needs
 loop-again : tie.Need-loop-again Inv-loop μ-loop
 loop-again c = let q = c .before in
     let a = q .before .before in
-    let l = a .before .before in
-    let s = start l in (
+    let l = at-loop a in (
       omega (arith, a .before .loop-test .taken),
       (λ i. l .loop .inv .1 i + lookSize (n-is l i) (m-is a i)) ∙ ap (startAt (U l)) (sym (add-one (l .loop .j))),
-      any-more (risesAt (U l) (F l) (s .args .threshold) (s .args .k)) (l .loop .j) (l .loop .inv .2) (sym (answer q) ∙ c .if1 .left),
+      any-more (test l) (l .loop .j) (l .loop .inv .2) (sym (answer q) ∙ c .if1 .left),
     )
 
 returns-2 : tie.Need-returns-2 Inv-loop μ-loop
 returns-2 c = let l = c .before in
-    let s = start l in
-    any-done (risesAt (U l) (F l) (s .args .threshold) (s .args .k)) (l .loop .j) (getD (U l) 5 0) (omega (arith, l .loop .inv .0, c .loop-test .left, lengths-are l)) (l .loop .inv .2)
-    ∙ any-is (U l) (F l) (s .args .threshold) (s .args .k)
+    any-done (test l) (l .loop .j) (getD (U l) 5 0) (omega (arith, l .loop .inv .0, c .loop-test .left, lengths-are l)) (l .loop .inv .2)
+    ∙ any-is (U l) (F l) (start l .args .threshold) (start l .args .k)
 
 pub window-rise-spec : {M : Type 1} → statement M
 window-rise-spec =

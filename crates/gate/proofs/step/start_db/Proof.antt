@@ -1,9 +1,8 @@
 -- `gate::step::start_db` meets its contract. Assumes nothing.
-use mathlib.Core.List.{List}
-use Prim.Native.Nat.{ℕ, _-_}
+use Prim.Native.Nat.{_-_}
 use native.Mathlib.Omega.{arith}
 use lib.ListN.{length, getD}
-use lib.Ieee.{Float, nan}
+use lib.Ieee.{nan}
 use Rattle.laws.proofs.Defaults.{getD-any}
 use Rattle.model.specs.Numbers.{f0}
 use Rattle.block.proofs.Fills.{Filled, begins, turns, done}
