@@ -91,16 +91,16 @@ left-is s v (gate h rise drop) =
     (gateUpdateRefusal (s .bu) (s .bf) (s .gu) (s .gf) (length (h .db)) (length (h .power)) (length rise) (length drop)) in
     record {
       bank-passes = v .bank-passes;
-      bank-is = sym (ap (runBank (bankIn s)) (no-bank (answer s (gate h rise drop)) h (length rise) (length drop)));
+      bank-is = sym (ap (runBank (bankIn s)) (no-bank (answer s (gate h rise drop)) h _ _));
       gate-passes = g .0;
       gate-is = g .1;
     }
 left-is s v (hold rise drop) =
     record {
       bank-passes = v .bank-passes;
-      bank-is = sym (ap (runBank (bankIn s)) (no-bank-hold (answer s (hold rise drop)) (length rise) (length drop)));
+      bank-is = sym (ap (runBank (bankIn s)) (no-bank-hold (answer s (hold rise drop)) _ _));
       gate-passes = v .gate-passes;
-      gate-is = sym (ap (runGate (gateIn s)) (no-gate-hold (answer s (hold rise drop)) (length rise) (length drop)));
+      gate-is = sym (ap (runGate (gateIn s)) (no-gate-hold (answer s (hold rise drop)) _ _));
     }
 
 pub sound-left : (s : Stores) (c : Call) → Sound s → Sound (left s c)

@@ -129,7 +129,10 @@ module _ (k : Making) (p q : Stores) (mp : Made k p) (mq : Made k q) (xs ys : Li
     gate-t = gate-run gs t (twins .other) ∙ ap₂ runGate (gate-heard k q mq ys) (sym (run .same-gate))
 
     make-after : (hs : List GateHop) (x y : Gate) → x ≡ runGate y hs → SameMake y (freshGate (settings k)) → SameMake x (freshGate (settings k))
-    make-after hs x y q m = subst (λ (z : Gate). SameMake z (freshGate (settings k))) (sym q) (let r = make-run hs y in record { n = r .n ∙ m .n; on = r .on ∙ m .on; early = r .early ∙ m .early })
+    make-after hs x y q m =
+        let r = make-run hs y in
+        subst (λ (z : Gate). SameMake z (freshGate (settings k))) (sym q)
+        (record { n = r .n ∙ m .n; on = r .on ∙ m .on; early = r .early ∙ m .early })
 
     make-s : SameMake (gateIn (leftBy s fs)) (freshGate (settings k))
     make-s = make-after (gateHops s fs) (gateIn (leftBy s fs)) (gateIn s) (gate-run fs s (twins .one)) (make-heard k p mp xs)
@@ -145,7 +148,8 @@ module _ (k : Making) (p q : Stores) (mp : Made k p) (mq : Made k q) (xs ys : Li
           early = make-s .early ∙ (unfold freshGate settingsOf in stored-absent (k .early) a);
           looks =
               ap (λ (x : Gate). x .looks) gate-s
-              ∙ looks-forget (settings k) (gateHops (made k p) xs) (gateHops (made k q) ys) (gateHops s fs) (unfold settingsOf in lengths-good k p mp) (unfold settingsOf in eg) (h .gate-updates)
+              ∙ looks-forget (settings k) (gateHops (made k p) xs) (gateHops (made k q) ys) (gateHops s fs) (unfold settingsOf in lengths-good k p mp)
+              (unfold settingsOf in eg) (omega (arith, h .gate-updates))
               ∙ sym (ap (λ (x : Gate). x .looks) gate-t);
           started =
               ap (λ (x : Gate). x .started) gate-s

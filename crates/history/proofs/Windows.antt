@@ -19,7 +19,7 @@ use Rattle.model.specs.Windows.{PowerLooks, turned, grown, ringOf, pushLook, ad
 use Rattle.model.specs.Gate.{sampleOf}
 use Rattle.model.specs.GateCalls.{GateHop}
 use Rattle.gate_store.specs.GoodGate.{GoodLook}
-use Rattle.gate_store.proofs.Fresh.{good-step-look}
+use Rattle.gate_store.proofs.Fresh.{good-step-look, step-look-m}
 
 abbrev pub runLook : ℕ → PowerLooks → List GateHop → PowerLooks
 runLook n l [] = l
@@ -52,40 +52,26 @@ bare-run n (h ∷ hs) l r e =
     ∙ ap (λ (x : PowerLooks). bare (stepLook n (sampleOf (h .power)) x)) e
     ∙ sym (bare-step n (sampleOf (h .power)) r))
 
--- ---- one step: its length, cursor, filled and rings
+-- ---- one step: its cursor, filled and rings
+
+settled : (c n : ℕ) (a : PowerLooks)
+    → (settleAt c n a .cursor ≡ a .cursor) × (settleAt c n a .filled ≡ a .filled) × (settleAt c n a .rings ≡ a .rings)
+unfolding rebaseLook
+settled zero n a = (refl, refl, refl)
+settled (suc c) n a = (refl, refl, refl)
 
 module _ (n : ℕ) (sample : ℕ → Float) (l : PowerLooks) where
-  pub m-step : stepLook n sample l .m ≡ l .m
-  unfolding stepLook advanceLook pushLook rebaseLook
-  m-step = go (turned (l .m) (l .cursor))
-    where
-      go : (c : ℕ) → settleAt c n (advanceLook (pushLook n sample l)) .m ≡ l .m
-      go zero = refl
-      go (suc c) = refl
-
-  pub cursor-step : stepLook n sample l .cursor ≡ turned (l .m) (l .cursor)
-  unfolding stepLook advanceLook pushLook rebaseLook
-  cursor-step = go (turned (l .m) (l .cursor))
-    where
-      go : (c : ℕ) → settleAt c n (advanceLook (pushLook n sample l)) .cursor ≡ turned (l .m) (l .cursor)
-      go zero = refl
-      go (suc c) = refl
+  cursor-step : stepLook n sample l .cursor ≡ turned (l .m) (l .cursor)
+  unfolding stepLook advanceLook pushLook
+  cursor-step = settled (turned (l .m) (l .cursor)) n (advanceLook (pushLook n sample l)) .0
 
   filled-step : stepLook n sample l .filled ≡ grown (l .m) (l .filled)
-  unfolding stepLook advanceLook pushLook rebaseLook
-  filled-step = go (turned (l .m) (l .cursor))
-    where
-      go : (c : ℕ) → settleAt c n (advanceLook (pushLook n sample l)) .filled ≡ grown (l .m) (l .filled)
-      go zero = refl
-      go (suc c) = refl
+  unfolding stepLook advanceLook pushLook
+  filled-step = settled (turned (l .m) (l .cursor)) n (advanceLook (pushLook n sample l)) .1
 
   rings-step : stepLook n sample l .rings ≡ tab n (λ k. set (ringOf l k) (l .cursor) (sample k))
-  unfolding stepLook advanceLook pushLook rebaseLook
-  rings-step = go (turned (l .m) (l .cursor))
-    where
-      go : (c : ℕ) → settleAt c n (advanceLook (pushLook n sample l)) .rings ≡ tab n (λ k. set (ringOf l k) (l .cursor) (sample k))
-      go zero = refl
-      go (suc c) = refl
+  unfolding stepLook advanceLook pushLook
+  rings-step = settled (turned (l .m) (l .cursor)) n (advanceLook (pushLook n sample l)) .2
 
   ring-step : (k : ℕ) → k < n → ringOf (stepLook n sample l) k ≡ set (ringOf l k) (l .cursor) (sample k)
   ring-step k h = ap (λ (r : List (List Float)). getD r k []) rings-step ∙ getD-tab n (λ k. set (ringOf l k) (l .cursor) (sample k)) k [] h
@@ -112,7 +98,7 @@ level-step n sample l r v =
     record {
       good = good-step-look n sample l (v .good);
       good′ = good-step-look n sample r (v .good′);
-      same-m = m-step n sample l ∙ v .same-m ∙ sym (m-step n sample r);
+      same-m = step-look-m n sample l ∙ v .same-m ∙ sym (step-look-m n sample r);
       same-cursor = cursor-step n sample l ∙ ap₂ turned (v .same-m) (v .same-cursor) ∙ sym (cursor-step n sample r);
     }
 
@@ -143,7 +129,9 @@ meet n sample l r v e t =
   where
     ring : (k : ℕ) → k < n → set (ringOf l k) (l .cursor) (sample k) ≡ set (ringOf r k) (r .cursor) (sample k)
     ring k h =
-        sym (take-all (suc (l .cursor)) (set (ringOf l k) (l .cursor) (sample k)) (omega (arith, v .good .ring-long k h, length-set (ringOf l k) (l .cursor) (sample k))))
+        sym
+        (take-all (suc (l .cursor)) (set (ringOf l k) (l .cursor) (sample k))
+        (omega (arith, v .good .ring-long k h, length-set (ringOf l k) (l .cursor) (sample k))))
         ∙ sym (ap (take (suc (l .cursor))) (ring-step n sample l k h))
         ∙ front-step n sample l r v e k h
         ∙ ap (take (suc (l .cursor))) (ring-step n sample r k h)
@@ -177,7 +165,7 @@ merge n (x ∷ hs) l r v e h =
     let c : l′ .cursor ≡ suc (l .cursor) = cursor-step n (sampleOf (x .power)) l ∙ turn-on (l .m) (l .cursor) (ltb-true (suc (l .cursor)) (2 * l .m) t) in
     merge n hs l′ r′ (level-step n (sampleOf (x .power)) l r v)
     (subst (λ (i : ℕ). Front n i l′ r′) (sym c) (front-step n (sampleOf (x .power)) l r v e))
-    (omega (arith, c, m-step n (sampleOf (x .power)) l)))
+    (omega (arith, c, step-look-m n (sampleOf (x .power)) l)))
     (λ t.
     bare-run n hs l′ r′
     (meet n (sampleOf (x .power)) l r v e (omega (arith, v .good .cursor, ltb-false (suc (l .cursor)) (2 * l .m) t))))
@@ -192,18 +180,18 @@ forget n (x ∷ hs) l r v h =
     by-test (ltb (suc (l .cursor)) (2 * l .m))
     (λ t.
     let c : l′ .cursor ≡ suc (l .cursor) = cursor-step n (sampleOf (x .power)) l ∙ turn-on (l .m) (l .cursor) (ltb-true (suc (l .cursor)) (2 * l .m) t) in
-    forget n hs l′ r′ (level-step n (sampleOf (x .power)) l r v) (omega (arith, c, m-step n (sampleOf (x .power)) l)))
+    forget n hs l′ r′ (level-step n (sampleOf (x .power)) l r v) (omega (arith, c, step-look-m n (sampleOf (x .power)) l)))
     (λ t.
     let u : suc (l .cursor) ≡ 2 * l .m = omega (arith, v .good .cursor, ltb-false (suc (l .cursor)) (2 * l .m) t) in
     let c : l′ .cursor ≡ 0 = cursor-step n (sampleOf (x .power)) l ∙ turn-end (l .m) (l .cursor) u in
     merge n hs l′ r′ (level-step n (sampleOf (x .power)) l r v) (subst (λ (i : ℕ). Front n i l′ r′) (sym c) (λ k q. refl))
-    (omega (arith, c, m-step n (sampleOf (x .power)) l)))
+    (omega (arith, c, step-look-m n (sampleOf (x .power)) l)))
 
 -- ---- a run: its length, cursor and filled
 
 pub m-run : (n : ℕ) (hs : List GateHop) (l : PowerLooks) → runLook n l hs .m ≡ l .m
 m-run n [] l = refl
-m-run n (h ∷ hs) l = m-run n hs (stepLook n (sampleOf (h .power)) l) ∙ m-step n (sampleOf (h .power)) l
+m-run n (h ∷ hs) l = m-run n hs (stepLook n (sampleOf (h .power)) l) ∙ step-look-m n (sampleOf (h .power)) l
 
 pub good-run-look : (n : ℕ) (hs : List GateHop) (l : PowerLooks) → GoodLook n l → GoodLook n (runLook n l hs)
 good-run-look n [] l g = g
@@ -215,8 +203,8 @@ cursor-run n [] l h = rw add-zero (sym (mod-eq-of-lt h))
 cursor-run n (x ∷ hs) l h =
     let s = sampleOf (x .power) in
     let below : turned (l .m) (l .cursor) < 2 * l .m = mod-lt (l .cursor + 1) (omega arith) in
-    cursor-run n hs (stepLook n s l) (rw (cursor-step n s l, m-step n s l) below)
-    ∙ ap₂ (λ (c m : ℕ). (c + length hs) % (2 * m)) (cursor-step n s l) (m-step n s l)
+    cursor-run n hs (stepLook n s l) (rw (cursor-step n s l, step-look-m n s l) below)
+    ∙ ap₂ (λ (c m : ℕ). (c + length hs) % (2 * m)) (cursor-step n s l) (step-look-m n s l)
     ∙ mod-add-mod (l .cursor + 1) (2 * l .m) (length hs)
     ∙ ap (λ (k : ℕ). k % (2 * l .m)) (omega arith)
 
@@ -224,7 +212,7 @@ filled-run : (n : ℕ) (hs : List GateHop) (l : PowerLooks) → l .filled ≤ 2 
 filled-run n [] l h = omega arith
 filled-run n (x ∷ hs) l h =
     let s = sampleOf (x .power) in
-    filled-run n hs (stepLook n s l) (omega (arith, filled-step n s l, m-step n s l)) ∙ omega (arith, filled-step n s l, m-step n s l)
+    filled-run n hs (stepLook n s l) (omega (arith, filled-step n s l, step-look-m n s l)) ∙ omega (arith, filled-step n s l, step-look-m n s l)
 
 -- 1,500 hops are enough for every length that making takes
 pub look-forgets : (n : ℕ) (fs : List GateHop) (l r : PowerLooks) → GoodLook n l → GoodLook n r → l .m ≡ r .m → l .cursor ≡ r .cursor → 1500 ≤ length fs
