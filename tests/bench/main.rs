@@ -113,7 +113,8 @@ fn gate_rows(n: usize, rounds: usize) {
     row("hold", holds, old_holds);
     row("bank and gate update", both, old_both);
     println!("  {:<22} {tests:9.2} µs   (a reading of the raw floor, and one of the smoothed dB)", "soundness of both");
-    println!("  {:<22} {:9.2}      (gate update - soundness) / floor.rs; the aim is 2", "beyond the tests", (updates - tests) / old_updates);
+    let beyond = (updates - tests) / old_updates;
+    println!("  {:<22} {beyond:9.2}      (gate update - soundness) / floor.rs; the aim is 2", "beyond the tests");
 }
 
 fn main() {
