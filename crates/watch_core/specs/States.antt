@@ -1,0 +1,25 @@
+-- Which channels are alive, and for how long.
+use mathlib.Core.Bool.{Bool, true, false, not, _&&_, _||_}
+use mathlib.Core.List.{List}
+use Prim.Native.Nat.{ℕ, _+_, _%_, _^_}
+use lib.Dec.{eqb}
+use lib.ListN.{length, getD}
+use Rattle.laws.specs.Lists.{tab, one}
+
+-- an idle channel with a rise mark becomes alive; an alive one with a drop mark and no rise mark becomes idle
+abbrev pub stateAfter : Bool → Bool → Bool → Bool
+stateAfter false rise drop = rise
+stateAfter true rise drop = rise || not drop
+
+-- a mark or a state in a list of bytes: 1 is set
+abbrev pub isSet : List ℕ → ℕ → Bool
+isSet l k = eqb (getD l k 0) 1
+
+-- the states after the marks of a hop
+unfoldable pub statesAfter : List ℕ → List ℕ → List ℕ → List ℕ
+statesAfter alive rise drop =
+    tab (length alive) (λ k. one (stateAfter (isSet alive k) (isSet rise k) (isSet drop k)))
+
+-- how many hops each was alive: one more where it is
+unfoldable pub countsAfter : List ℕ → List ℕ → List ℕ
+countsAfter counts alive = tab (length counts) (λ k. (getD counts k 0 + one (isSet alive k)) % 2 ^ 64)
