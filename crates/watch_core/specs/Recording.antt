@@ -12,10 +12,6 @@ use Rattle.watch_core.specs.declared.recording.Step.the-variants.{End, C
 abbrev pub hopBytes : ℕ → ℕ
 hopBytes n = 1 + 12 * n
 
--- where hop h begins
-abbrev pub hopStart : ℕ → ℕ → ℕ
-hopStart n h = 2 + hopBytes n * h
-
 abbrev pub pick : Bool → Step → Step → Step
 pick true a b = a
 pick false a b = b

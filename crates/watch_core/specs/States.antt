@@ -20,6 +20,17 @@ unfoldable pub statesAfter : List ℕ → List ℕ → List ℕ → List ℕ
 statesAfter alive rise drop =
     tab (length alive) (λ k. one (stateAfter (isSet alive k) (isSet rise k) (isSet drop k)))
 
--- how many hops each was alive: one more where it is
+-- 1: comes alive; 2: becomes idle; 0: neither
+abbrev pub changeOf : Bool → Bool → ℕ
+changeOf false will = one will
+changeOf true true = 0
+changeOf true false = 2
+
+-- what the marks of a hop change
+unfoldable pub changesOf : ℕ → List ℕ → List ℕ → List ℕ → List ℕ
+changesOf n alive rise drop =
+    tab n (λ k. changeOf (isSet alive k) (stateAfter (isSet alive k) (isSet rise k) (isSet drop k)))
+
+-- one more where a mark is set
 unfoldable pub countsAfter : List ℕ → List ℕ → List ℕ
-countsAfter counts alive = tab (length counts) (λ k. (getD counts k 0 + one (isSet alive k)) % 2 ^ 64)
+countsAfter counts marks = tab (length counts) (λ k. (getD counts k 0 + one (isSet marks k)) % 2 ^ 64)

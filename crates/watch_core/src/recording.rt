@@ -1,10 +1,13 @@
 // The bytes of a recording.
 ghost use mathlib.Core.Path.{_≡_};
-ghost use Prim.Native.Nat.{_+_, _*_, _≤_, _<_};
+ghost use Prim.Native.Nat.{_+_, _*_, _%_, _^_, _<_};
+ghost use mathlib.Core.Bool.{false};
+ghost use lib.Dec.{eqb};
 ghost use lib.ListN.{length};
 ghost use Rattle.laws.specs.Lists.{tab};
 ghost use Rattle.low_first.specs.LowFirst.{doubleAt, singleAt};
-ghost use Rattle.watch_core.specs.Recording.{hopBytes, hopStart, stepOf};
+ghost use Rattle.watch_core.specs.Recording.{hopBytes, stepOf};
+use std::num::wrapping_add_u64;
 
 // More channels than a bank takes are refused by the bank; this many fit the buffers.
 pub const MOST: usize = 512;
@@ -36,15 +39,48 @@ fn wide(x: u16) -> usize
     x as usize
 }
 
-// Where a hop begins, in bytes from the start of the recording. No recording reaches 2^40 hops.
-pub fn hop_start(n: u16, hop: u64) -> u64
-    ensures { λ r. ⌜ hop < 1099511627776 → r ≡ hopStart n hop ⌝ }
+// Where a hop stands: its number and its first byte, from 0; and whether hops are still read.
+pub struct Place {
+    pub hop: u64,
+    pub byte: u64,
+    pub is_on: bool,
+}
+
+// The first hop stands behind the two bytes of n.
+pub fn first_place() -> Place
+    ensures { λ r. ⌜ (r .hop ≡ 0) × (r .byte ≡ 2) ⌝ }
 {
-    let size = hop_bytes(n) as u64;
-    if hop >= 1099511627776 {
-        return 0;
+    Place {
+        hop: 0,
+        byte: 2,
+        is_on: true,
     }
-    2 + size * hop
+}
+
+// The place behind a hop of so many bytes. No recording is so long that a sum wraps.
+pub fn next_place(p: Place, size: usize) -> Place
+    ensures { λ r. ⌜ (r .hop ≡ (p .hop + 1) % 2 ^ 64) × (r .byte ≡ (p .byte + size) % 2 ^ 64) ⌝ }
+{
+    Place {
+        hop: wrapping_add_u64(p.hop, 1),
+        byte: wrapping_add_u64(p.byte, size as u64),
+        is_on: true,
+    }
+}
+
+// The same place, and no more hops.
+pub fn ended(mut p: Place) -> Place
+    ensures { λ r. ⌜ (r .hop ≡ p .hop) × (r .byte ≡ p .byte) × (r .«is_on» ≡ false) ⌝ }
+{
+    p.is_on = false;
+    p
+}
+
+// A slow hop: the bank takes its dB into the rings.
+pub fn is_slow(hop: u64) -> bool
+    ensures { λ r. ⌜ r ≡ eqb (hop % 15) 0 ⌝ }
+{
+    hop % 15 == 0
 }
 
 // `bytes` is what could be read of a hop of `size` bytes.

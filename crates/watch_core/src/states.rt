@@ -1,7 +1,8 @@
 // Which channels are alive. Marks and states are bytes, 1 where set, as the gate writes its marks.
 ghost use mathlib.Core.Path.{_≡_};
-ghost use lib.ListN.{length};
-ghost use Rattle.watch_core.specs.States.{stateAfter, statesAfter, countsAfter, isSet};
+ghost use lib.ListN.{length, getD};
+ghost use Rattle.laws.specs.Lists.{one};
+ghost use Rattle.watch_core.specs.States.{stateAfter, statesAfter, countsAfter, changeOf, changesOf, isSet};
 use std::num::wrapping_add_u64;
 
 // An idle channel with a rise mark becomes alive; an alive one with a drop mark and no rise mark becomes idle.
@@ -23,7 +24,9 @@ pub fn is_set(marks: &[u8], k: usize) -> bool
     marks[k] == 1
 }
 
-fn bit(is_on: bool) -> u8 {
+fn bit(is_on: bool) -> u8
+    ensures { λ r. ⌜ r ≡ one «is_on» ⌝ }
+{
     if is_on { 1 } else { 0 }
 }
 
@@ -36,11 +39,64 @@ pub fn step_states(alive: &mut [u8], rise: &[u8], drop: &[u8])
     }
 }
 
-// One hop more for each channel that is alive.
-pub fn count_alive(counts: &mut [u64], alive: &[u8])
-    ensures { λ _. ⌜ now (counts .exit) ≡ countsAfter (now (counts .entry)) (now (alive .entry)) ⌝ }
+// What a hop changes: 1 where a channel comes alive, 2 where it becomes idle, else 0.
+fn change(is_alive: bool, will_be: bool) -> u8
+    ensures { λ r. ⌜ r ≡ changeOf «is_alive» «will_be» ⌝ }
+{
+    if is_alive {
+        return if will_be { 0 } else { 2 };
+    }
+    bit(will_be)
+}
+
+pub fn find_changes(changes: &mut [u8], alive: &[u8], rise: &[u8], drop: &[u8])
+    ensures { λ _. ⌜ now (changes .exit) ≡ changesOf (length (now (changes .entry))) (now (alive .entry)) (now (rise .entry)) (now (drop .entry)) ⌝ }
+{
+    for k in 0..changes.len() {
+        let is_alive = is_set(alive, k);
+        changes[k] = change(
+            is_alive,
+            state_after(is_alive, is_set(rise, k), is_set(drop, k)),
+        );
+    }
+}
+
+// One more where a mark is set: hops alive, or rises.
+pub fn count_set(counts: &mut [u64], marks: &[u8])
+    ensures { λ _. ⌜ now (counts .exit) ≡ countsAfter (now (counts .entry)) (now (marks .entry)) ⌝ }
 {
     for k in 0..counts.len() {
-        counts[k] = wrapping_add_u64(counts[k], bit(is_set(alive, k)) as u64);
+        counts[k] = wrapping_add_u64(counts[k], bit(is_set(marks, k)) as u64);
+    }
+}
+
+pub fn mark_at(marks: &[u8], k: usize) -> u8
+    ensures { λ r. ⌜ r ≡ getD (now (marks .entry)) k 0 ⌝ }
+{
+    if k >= marks.len() {
+        return 0;
+    }
+    marks[k]
+}
+
+pub fn count_at(counts: &[u64], k: usize) -> u64
+    ensures { λ r. ⌜ r ≡ getD (now (counts .entry)) k 0 ⌝ }
+{
+    if k >= counts.len() {
+        return 0;
+    }
+    counts[k]
+}
+
+// Changes are kept, bit by bit, until the next slow hop.
+pub fn add_events(events: &mut [u8], changes: &[u8]) {
+    for k in 0..events.len() {
+        events[k] = events[k] | mark_at(changes, k);
+    }
+}
+
+pub fn clear(events: &mut [u8]) {
+    for k in 0..events.len() {
+        events[k] = 0;
     }
 }
