@@ -1,16 +1,18 @@
 /*
- * Wolfcloak: noise floors for a Morse watch handset.
+ * Wolfcloak: noise floors, rises and drops for a Morse watch handset.
  *
- * Link with libwolfcloak.a. Nothing here allocates or keeps anything: all that a bank knows lies in two stores that the
+ * Link with libwolfcloak.a. Nothing here allocates or keeps anything: all that a bank or a gate knows lies in two stores that the
  * caller lends to each call. A slice is a pointer and then its length in elements. No pointer may be NULL, that of an empty
  * slice neither, and what a call writes may not overlap anything else lent to it.
  *
  * Every call answers 0, or the number of the first refusal that is due. A refusal changes nothing: stores, outputs and values
- * hold what they held before. Any contents of a store and any bits of a float may be handed in; a call tests the whole store
- * first.
+ * hold what they held before. Any contents of a store and any bits of a float may be handed in; a call tests the whole of each
+ * store that it is lent first.
  *
  * A bank is made once, by wolfcloak_bank_new, and fed one hop at a time (375 a second). Every 15th hop, the first among
- * them, is a slow hop: it steps the floors. The stores may be copied or kept over a power loss; both belong together.
+ * them, is a slow hop: it steps the floors. A gate of the same n is made once, by wolfcloak_gate_new, and fed the same hops after
+ * the bank: it marks which channels rise and drop. The stores may be copied or kept over a power loss; the two of a bank belong
+ * together, and the two of a gate.
  */
 #ifndef WOLFCLOAK_H
 #define WOLFCLOAK_H
@@ -28,7 +30,7 @@ extern "C" {
 #define WOLFCLOAK_REFUSED_BAND 1       /* making: n outside 1..512 */
 #define WOLFCLOAK_REFUSED_STORE_SIZE 2 /* a store's length isn't the one for its n */
 #define WOLFCLOAK_REFUSED_LENGTHS 3    /* making a gate: no window length, over 8, or one outside 1..375 */
-#define WOLFCLOAK_REFUSED_LEVEL 4      /* making a gate: a level outside -800..800 eighths of a dB */
+#define WOLFCLOAK_REFUSED_LEVEL 4      /* making a gate: a level outside -800..800 eighths of a dB, and not an absent early */
 #define WOLFCLOAK_REFUSED_HOP_SIZE 5   /* a hop or output slice isn't n long */
 #define WOLFCLOAK_REFUSED_GARBLED 6    /* a slow hop with a NaN dB in a block of two or more channels */
 #define WOLFCLOAK_REFUSED_CHANNEL 7    /* channel number n or more */
@@ -92,6 +94,56 @@ uint16_t wolfcloak_floors(const uint16_t *bank, size_t bank_len, const double *b
 /* Where in bank the ring of channel k lies: bank[*start] to bank[*start + *len - 1], its last 250 bins. */
 uint16_t wolfcloak_ring(const uint16_t *bank, size_t bank_len, const double *bank_f, size_t bank_f_len,
                         size_t k, size_t *start, size_t *len);
+
+/* ---- the gate: rise and drop marks for each channel of a bank ---- */
+
+/* A gate's first store is always this many uint16_t. */
+#define WOLFCLOAK_GATE_LEN 30
+
+/* An early level that is absent: no early rise. */
+#define WOLFCLOAK_NO_EARLY 65535
+
+/* How many double a gate of n channels and these window lengths takes; 0 where making refuses n or the lengths. */
+size_t wolfcloak_gate_f_len(size_t n, const uint16_t *lengths, size_t lengths_len);
+
+/*
+ * Makes a fresh gate of n channels in the two stores, whatever they held: gate has to be WOLFCLOAK_GATE_LEN long and gate_f
+ * wolfcloak_gate_f_len(n, ..). The levels on, off and early are in eighths of a dB over the floor, -800 to 800; early may be
+ * WOLFCLOAK_NO_EARLY. lengths has 1 to 8 window lengths of 1 to 375 hops; doubles are dropped.
+ * Refuses with 1, then 3, 4, 2.
+ */
+uint16_t wolfcloak_gate_new(uint16_t *gate, size_t gate_len, double *gate_f, size_t gate_f_len, size_t n,
+                            int32_t on, int32_t off, int32_t early, const uint16_t *lengths, size_t lengths_len);
+
+/*
+ * One hop, after the bank's update with the same hop: steps the smoothed dB and the windows, then writes for each channel 1 or 0
+ * to rise and to drop, both n long. A channel rises where two whole windows of some length both reach the on level over its rise
+ * floor and no neighbour within two channels is stronger, or where its smoothed dB reaches the early level over its effective
+ * floor; it drops where its smoothed dB is below the off level over its effective floor.
+ * Refuses with 2 or 9 for the bank's stores, then for the gate's, then 8, then 5.
+ */
+uint16_t wolfcloak_gate_update(const uint16_t *bank, size_t bank_len, const double *bank_f, size_t bank_f_len,
+                               uint16_t *gate, size_t gate_len, double *gate_f, size_t gate_f_len,
+                               const double *power_db, size_t power_db_len, const float *power, size_t power_len,
+                               uint8_t *rise, size_t rise_len, uint8_t *drop, size_t drop_len);
+
+/*
+ * The marks as the gate stands, without a step: for a hop of static. Before the first update it writes zeros.
+ * Refuses as the update does.
+ */
+uint16_t wolfcloak_gate_hold(const uint16_t *bank, size_t bank_len, const double *bank_f, size_t bank_f_len,
+                             const uint16_t *gate, size_t gate_len, const double *gate_f, size_t gate_f_len,
+                             uint8_t *rise, size_t rise_len, uint8_t *drop, size_t drop_len);
+
+/* The smoothed dB of channel k; 0 before the first update. Refuses with 2 or 9 for the gate's stores, then 7. */
+uint16_t wolfcloak_smoothed_db(const uint16_t *gate, size_t gate_len, const double *gate_f, size_t gate_f_len,
+                               size_t k, double *value);
+
+/* The early rise of channel k alone, 1.0 or 0.0; 0.0 before the first update and where early is absent.
+ * Refuses with 2 or 9 for the bank's stores, then for the gate's, then 8, then 7. */
+uint16_t wolfcloak_ema_rise(const uint16_t *bank, size_t bank_len, const double *bank_f, size_t bank_f_len,
+                            const uint16_t *gate, size_t gate_len, const double *gate_f, size_t gate_f_len,
+                            size_t k, double *value);
 
 #ifdef __cplusplus
 }

@@ -10,7 +10,7 @@ mod numbers;
 #[path = "../compare/wolfcloak.rs"]
 mod wolfcloak;
 
-use floor::FloorBank;
+use floor::{FloorBank, Gate};
 use numbers::{sample, Feed, Rng};
 use std::hint::black_box;
 use std::time::Instant;
@@ -32,10 +32,17 @@ fn sum(words: &[u16]) -> u32 {
     words.iter().fold(0, |s, &w| s.wrapping_add(w as u32))
 }
 
-fn bank_rows(n: usize, rounds: usize) {
+fn hops(n: usize) -> Vec<(Vec<f64>, Vec<f32>)> {
     let mut rng = Rng(1);
-    let hops: Vec<(Vec<f64>, Vec<f32>)> =
-        (0..150).map(|hop| (0..n).map(|k| sample(&mut rng, Feed::Noise, hop, k)).unzip()).collect();
+    (0..150).map(|hop| (0..n).map(|k| sample(&mut rng, Feed::Noise, hop, k)).unzip()).collect()
+}
+
+fn row(what: &str, ours: f64, old: f64) {
+    println!("  {what:<22} {ours:9.2} µs   floor.rs {old:9.2} µs   ratio {:7.2}", ours / old);
+}
+
+fn bank_rows(n: usize, rounds: usize) {
+    let hops = hops(n);
     let mut oracle = FloorBank::new(n);
     let (mut u, mut f) = oracle.to_stores();
     assert_eq!(wolfcloak::bank_new(&mut u, &mut f, n), 0);
@@ -57,13 +64,61 @@ fn bank_rows(n: usize, rounds: usize) {
     let [ordinary, slow, old_ordinary, old_slow, sums, tests] =
         [ordinary, slow, old_ordinary, old_slow, sums, tests].map(median);
     println!("bank, n = {n}");
-    println!("  ordinary hop  {ordinary:9.2} µs   floor.rs {old_ordinary:9.2} µs   ratio {:7.2}", ordinary / old_ordinary);
-    println!("  slow hop      {slow:9.2} µs   floor.rs {old_slow:9.2} µs   ratio {:7.2}", slow / old_slow);
-    println!("  sum of store  {sums:9.2} µs   ordinary hop / sum {:7.2}", ordinary / sums);
-    println!("  soundness     {tests:9.2} µs   (a reading of the raw floor)");
+    row("ordinary hop", ordinary, old_ordinary);
+    row("slow hop", slow, old_slow);
+    println!("  {:<22} {sums:9.2} µs   ordinary hop / sum {:7.2}", "sum of store", ordinary / sums);
+    println!("  {:<22} {tests:9.2} µs   (a reading of the raw floor)", "soundness");
+}
+
+const LENGTHS: [u16; 3] = [15, 75, 375];
+
+/// As a receiver runs them: each hop a bank update and then a gate update; holds beside it. The longest windows are summed afresh
+/// every 750 hops.
+fn gate_rows(n: usize, rounds: usize) {
+    let hops = hops(n);
+    let (mut bank, mut gate) = (FloorBank::new(n), Gate::made(n, [48, 16, 96], &LENGTHS));
+    let ((mut u, mut f), (mut g, mut h)) = (bank.to_stores(), gate.to_stores());
+    let (mut rise, mut drop) = (vec![0; n], vec![0; n]);
+    let [mut updates, mut old_updates, mut afresh, mut old_afresh, mut holds, mut old_holds]: [Vec<f64>; 6] = Default::default();
+    let [mut both, mut old_both, mut tests]: [Vec<f64>; 3] = Default::default();
+    for hop in 0..rounds * 750 {
+        let (db, power) = &hops[hop % hops.len()];
+        let first = time(|| wolfcloak::bank_update(&mut u, &mut f, db, power, None));
+        let second =
+            time(|| wolfcloak::gate_update((&u, &f), (&mut g, &mut h), (db, power), (&mut rise, &mut drop)));
+        let old_first = time(|| bank.update(db, power));
+        let mut marks = (vec![], vec![]);
+        let old_second = time(|| marks = gate.update(db, power, &bank));
+        assert!(marks.0.iter().zip(&rise).all(|(&m, &byte)| m as u8 == byte));
+        let is_afresh = hop % 750 == 749;
+        if is_afresh { &mut afresh } else { &mut updates }.push(second);
+        if is_afresh { &mut old_afresh } else { &mut old_updates }.push(old_second);
+        both.push(first + second);
+        old_both.push(old_first + old_second);
+        if hop % 5 == 1 {
+            holds.push(time(|| wolfcloak::gate_hold((&u, &f), (&g, &h), (&mut rise, &mut drop))));
+            old_holds.push(time(|| gate.hold(&bank)));
+            let mut value = 0.0;
+            tests.push(time(|| {
+                wolfcloak::channel_floor_db(&u, &f, 0, &mut value) + wolfcloak::smoothed_db((&g, &h), 0, &mut value)
+            }));
+        }
+    }
+    assert!(gate.words() == g);
+    let [updates, old_updates, afresh, old_afresh, holds, old_holds, both, old_both, tests] =
+        [updates, old_updates, afresh, old_afresh, holds, old_holds, both, old_both, tests].map(median);
+    println!("gate, n = {n}, window lengths 15, 75, 375");
+    row("gate update", updates, old_updates);
+    row("  summed afresh", afresh, old_afresh);
+    row("hold", holds, old_holds);
+    row("bank and gate update", both, old_both);
+    println!("  {:<22} {tests:9.2} µs   (a reading of the raw floor, and one of the smoothed dB)", "soundness of both");
+    println!("  {:<22} {:9.2}      (gate update - soundness) / floor.rs; the aim is 2", "beyond the tests", (updates - tests) / old_updates);
 }
 
 fn main() {
     bank_rows(32, 2000);
     bank_rows(512, 600);
+    gate_rows(32, 12);
+    gate_rows(512, 6);
 }

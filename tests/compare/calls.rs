@@ -1,10 +1,14 @@
-// One set of arguments, lent to every function of the bank, and what is compared of each.
-use crate::floor::FloorBank;
-use crate::rules::{refusal, MAKING, READ, SOUND, STORE, UPDATE};
+// One set of arguments, lent to every function, and what is compared of each.
+use crate::floor::{FloorBank, Gate};
+use crate::rules::{
+    refusal, Rule, GATE_FLOATS, GATE_HOLD, GATE_MAKING, GATE_READ, GATE_SOUND, GATE_STORE, GATE_UPDATE, MAKING, PAIR, READ,
+    SOUND, STORE, UPDATE,
+};
 use crate::tally::Tally;
 use crate::wolfcloak as lib;
 use std::fmt::Arguments;
 
+#[derive(Clone, Copy, Default)]
 pub struct Call<'a> {
     pub u: &'a [u16],
     pub f: &'a [f64],
@@ -12,6 +16,12 @@ pub struct Call<'a> {
     pub power: &'a [f32],
     pub k: usize,
     pub n: usize,
+    pub gate: &'a [u16],
+    pub gate_f: &'a [f64],
+    pub rise: &'a [u8],
+    pub drop: &'a [u8],
+    pub levels: [i32; 3],
+    pub lengths: &'a [u16],
 }
 
 /// The arguments, with room behind each slice: the first `_len` entries are lent, and the others must stay as they are.
@@ -28,6 +38,16 @@ pub struct Lent {
     pub k: usize,
     pub n: usize,
     pub hold: Option<bool>,
+    pub gate: Vec<u16>,
+    pub gate_len: usize,
+    pub gate_f: Vec<f64>,
+    pub gate_f_len: usize,
+    pub rise: Vec<u8>,
+    pub rise_len: usize,
+    pub drop: Vec<u8>,
+    pub drop_len: usize,
+    pub levels: [i32; 3],
+    pub lengths: Vec<u16>,
 }
 
 fn with_room<T: Copy>(s: &[T], x: T) -> Vec<T> {
@@ -38,8 +58,27 @@ fn bits(f: &[f64]) -> Vec<u64> {
     f.iter().map(|x| x.to_bits()).collect()
 }
 
+pub type Stores = (Vec<u16>, Vec<f64>);
+
+/// Two stores after a call: all bits as before if it was refused, else what is due, and as before beyond what was lent.
+fn compare_stores(t: &mut Tally, what: Arguments, before: (&[u16], &[f64]), u: &[u16], f: &[f64], due: Option<Stores>) {
+    let Some((want_u, want_f)) = due else {
+        t.words(what, u, before.0);
+        t.check(bits(f) == bits(before.1), format_args!("{what}: refused, and an f64 store has changed"));
+        return;
+    };
+    let (u_len, f_len) = (want_u.len(), want_f.len());
+    t.words(what, &u[..u_len], &want_u);
+    t.floats(what, &f[..f_len], &want_f);
+    t.words(what, &u[u_len..], &before.0[u_len..]);
+    t.floats(what, &f[f_len..], &before.1[f_len..]);
+}
+
 impl Lent {
-    pub fn new(u: &[u16], f: &[f64], db: &[f64], power: &[f32]) -> Lent {
+    /// The stores of a bank, those of a gate, a hop, and what makes such a gate.
+    pub fn new(bank: &Stores, gate: &Stores, db: &[f64], power: &[f32], levels: [i32; 3], lengths: &[u16]) -> Lent {
+        let n = db.len();
+        let ((u, f), (gate, gate_f)) = (bank, gate);
         Lent {
             u: with_room(u, 7),
             u_len: u.len(),
@@ -50,8 +89,18 @@ impl Lent {
             power: with_room(power, 0.5),
             power_len: power.len(),
             k: 0,
-            n: u[0] as usize,
+            n,
             hold: None,
+            gate: with_room(gate, 7),
+            gate_len: gate.len(),
+            gate_f: with_room(gate_f, 7.5),
+            gate_f_len: gate_f.len(),
+            rise: vec![77; n + 4],
+            rise_len: n,
+            drop: vec![78; n + 4],
+            drop_len: n,
+            levels,
+            lengths: lengths.to_vec(),
         }
     }
 
@@ -63,39 +112,62 @@ impl Lent {
             power: &self.power[..self.power_len],
             k: self.k,
             n: self.n,
+            gate: &self.gate[..self.gate_len],
+            gate_f: &self.gate_f[..self.gate_f_len],
+            rise: &self.rise[..self.rise_len],
+            drop: &self.drop[..self.drop_len],
+            levels: self.levels,
+            lengths: &self.lengths,
         }
     }
 
-    /// The stores after a call: all bits as before if it was refused, else what the oracle has, and as before beyond what was lent.
-    fn compare(&self, t: &mut Tally, what: Arguments, u: &[u16], f: &[f64], oracle: Option<FloorBank>) {
-        let Some(oracle) = oracle else {
-            t.words(what, u, &self.u);
-            t.check(bits(f) == bits(&self.f), format_args!("{what}: refused, and the f64 store has changed"));
-            return;
-        };
-        let (want_u, want_f) = oracle.to_stores();
-        t.words(what, &u[..self.u_len], &want_u);
-        t.floats(what, &f[..self.f_len], &want_f);
-        t.words(what, &u[self.u_len..], &self.u[self.u_len..]);
-        t.floats(what, &f[self.f_len..], &self.f[self.f_len..]);
+    fn compare_bank(&self, t: &mut Tally, what: Arguments, u: &[u16], f: &[f64], due: Option<Stores>) {
+        compare_stores(t, what, (&self.u, &self.f), u, f, due);
+    }
+
+    fn compare_gate(&self, t: &mut Tally, what: Arguments, g: &[u16], f: &[f64], due: Option<Stores>) {
+        compare_stores(t, what, (&self.gate, &self.gate_f), g, f, due);
+    }
+
+    /// Rise and drop after a call.
+    fn compare_marks(&self, t: &mut Tally, what: Arguments, rise: &[u8], drop: &[u8], due: Option<(Vec<bool>, Vec<bool>)>) {
+        let (want_rise, want_drop) = due.unwrap_or_default();
+        for (name, got, want, before) in [("rise", rise, want_rise, &self.rise), ("drop", drop, want_drop, &self.drop)] {
+            let beyond = before.iter().copied().skip(want.len());
+            let want: Vec<u8> = want.iter().map(|&m| m as u8).chain(beyond).collect();
+            t.check(got == want, format_args!("{what}: {name} is {got:?}, and {want:?} is due"));
+        }
     }
 }
 
-/// Every function of the bank with these arguments.
+/// Every function with these arguments.
 pub fn every_call(t: &mut Tally, what: Arguments, l: &Lent) {
     let c = l.call();
     making(t, format_args!("{what}: bank_new"), l);
-    let store = refusal(&c, &[&STORE, &SOUND]);
-    let then = |rules| if store != 0 { store } else { refusal(&c, &[rules]) };
-    update(t, format_args!("{what}: bank_update {:?}", l.hold), l, then(&UPDATE));
-    readings(t, what, &c, then(&READ));
+    gate_making(t, format_args!("{what}: gate_new"), l);
+    let then = |first: u16, rules: &[Rule]| if first != 0 { first } else { refusal(&c, &[rules]) };
+    let bank = refusal(&c, &[&STORE, &SOUND]);
+    update(t, format_args!("{what}: bank_update {:?}", l.hold), l, then(bank, &UPDATE));
+    readings(t, what, &c, then(bank, &READ));
+    let gate = refusal(&c, &[&GATE_STORE, &GATE_SOUND, &GATE_FLOATS]);
+    let both = then(if bank != 0 { bank } else { gate }, &PAIR);
+    gate_update(t, format_args!("{what}: gate_update"), l, then(both, &GATE_UPDATE));
+    gate_hold(t, format_args!("{what}: gate_hold"), l, then(both, &GATE_HOLD));
+    gate_readings(t, what, &c, then(gate, &GATE_READ), then(both, &GATE_READ));
 }
 
 pub fn making(t: &mut Tally, what: Arguments, l: &Lent) {
     let (mut u, mut f) = (l.u.clone(), l.f.clone());
     let due = refusal(&l.call(), &[&MAKING]);
     t.answer(what, lib::bank_new(&mut u[..l.u_len], &mut f[..l.f_len], l.n), due);
-    l.compare(t, what, &u, &f, (due == 0).then(|| FloorBank::new(l.n)));
+    l.compare_bank(t, what, &u, &f, (due == 0).then(|| FloorBank::new(l.n).to_stores()));
+}
+
+pub fn gate_making(t: &mut Tally, what: Arguments, l: &Lent) {
+    let (mut g, mut f) = (l.gate.clone(), l.gate_f.clone());
+    let due = refusal(&l.call(), &[&GATE_MAKING]);
+    t.answer(what, lib::gate_new(&mut g[..l.gate_len], &mut f[..l.gate_f_len], l.n, l.levels, &l.lengths), due);
+    l.compare_gate(t, what, &g, &f, (due == 0).then(|| Gate::made(l.n, l.levels, &l.lengths).to_stores()));
 }
 
 fn update(t: &mut Tally, what: Arguments, l: &Lent, due: u16) {
@@ -105,18 +177,60 @@ fn update(t: &mut Tally, what: Arguments, l: &Lent, due: u16) {
     let stepped = || {
         let mut oracle = FloorBank::of_stores(c.u, c.f);
         oracle.update_holding_reference(c.db, c.power, l.hold == Some(true));
-        oracle
+        oracle.to_stores()
     };
-    l.compare(t, what, &u, &f, (due == 0).then(stepped));
+    l.compare_bank(t, what, &u, &f, (due == 0).then(stepped));
 }
 
-/// Every reading of channel k; a refused one leaves the values as they were.
-pub fn readings(t: &mut Tally, what: Arguments, c: &Call, due: u16) {
-    let oracle = (due == 0).then(|| FloorBank::of_stores(c.u, c.f));
-    readings_of(t, what, c, due, oracle.as_ref());
+fn gate_update(t: &mut Tally, what: Arguments, l: &Lent, due: u16) {
+    let c = l.call();
+    let (mut g, mut f, mut rise, mut drop) = (l.gate.clone(), l.gate_f.clone(), l.rise.clone(), l.drop.clone());
+    let stores = (&mut g[..l.gate_len], &mut f[..l.gate_f_len]);
+    let marks = (&mut rise[..l.rise_len], &mut drop[..l.drop_len]);
+    t.answer(what, lib::gate_update((c.u, c.f), stores, (c.db, c.power), marks), due);
+    let stepped = || {
+        let mut gate = Gate::of_stores(c.gate, c.gate_f);
+        let marks = gate.update(c.db, c.power, &FloorBank::of_stores(c.u, c.f));
+        (gate.to_stores(), marks)
+    };
+    let (stores, marks) = (due == 0).then(stepped).unzip();
+    l.compare_gate(t, what, &g, &f, stores);
+    l.compare_marks(t, what, &rise, &drop, marks);
+}
+
+fn gate_hold(t: &mut Tally, what: Arguments, l: &Lent, due: u16) {
+    let c = l.call();
+    let (mut rise, mut drop) = (l.rise.clone(), l.drop.clone());
+    let marks = (&mut rise[..l.rise_len], &mut drop[..l.drop_len]);
+    t.answer(what, lib::gate_hold((c.u, c.f), (c.gate, c.gate_f), marks), due);
+    let held = || Gate::of_stores(c.gate, c.gate_f).hold(&FloorBank::of_stores(c.u, c.f));
+    l.compare_marks(t, what, &rise, &drop, (due == 0).then(held));
 }
 
 const BEFORE: f64 = 12345.678;
+
+/// The smoothed dB, and the early rise; a refused one leaves the value as it was.
+fn gate_readings(t: &mut Tally, what: Arguments, c: &Call, smoothed: u16, early: u16) {
+    let gate = (smoothed == 0).then(|| Gate::of_stores(c.gate, c.gate_f));
+    let bank = (early == 0).then(|| FloorBank::of_stores(c.u, c.f));
+    gate_readings_of(t, what, c, [smoothed, early], gate.as_ref(), bank.as_ref());
+}
+
+pub fn gate_readings_of(t: &mut Tally, what: Arguments, c: &Call, due: [u16; 2], gate: Option<&Gate>, bank: Option<&FloorBank>) {
+    let k = c.k;
+    let (mut smoothed, mut early) = (BEFORE, BEFORE);
+    t.answer(format_args!("{what}: smoothed_db {k}"), lib::smoothed_db((c.gate, c.gate_f), k, &mut smoothed), due[0]);
+    t.value(format_args!("{what}: smoothed_db {k}"), smoothed, gate.map_or(BEFORE, |g| g.smoothed_db(k)));
+    t.answer(format_args!("{what}: ema_rise {k}"), lib::ema_rise((c.u, c.f), (c.gate, c.gate_f), k, &mut early), due[1]);
+    let want = gate.zip(bank).map_or(BEFORE, |(g, b)| g.ema_rise(k, b) as u8 as f64);
+    t.value(format_args!("{what}: ema_rise {k}"), early, want);
+}
+
+/// Every reading of channel k; a refused one leaves the values as they were.
+fn readings(t: &mut Tally, what: Arguments, c: &Call, due: u16) {
+    let oracle = (due == 0).then(|| FloorBank::of_stores(c.u, c.f));
+    readings_of(t, what, c, due, oracle.as_ref());
+}
 
 pub fn readings_of(t: &mut Tally, what: Arguments, c: &Call, due: u16, oracle: Option<&FloorBank>) {
     let (u, f, k) = (c.u, c.f, c.k);

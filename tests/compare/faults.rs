@@ -1,9 +1,10 @@
 // Refusals: each fault, each pair of faults at once, and arbitrary words, stores and lengths.
-use crate::calls::{every_call, making, Lent};
-use crate::numbers::{any_f32, any_f64, Rng};
-use crate::rules::{SOUND, STORE};
+use crate::calls::{every_call, gate_making, making, Lent};
+use crate::floor::{self, FloorBank, Gate, ABSENT};
+use crate::numbers::{any_f32, any_f64, any_lengths, any_levels, beside, Rng};
+use crate::rules::{count_alone, gate_floats, Alone};
 use crate::tally::Tally;
-use crate::{floor::FloorBank, wolfcloak as lib};
+use crate::wolfcloak as lib;
 
 /// A channel of the bank as it was made.
 fn channel<'a>(l: &'a mut Lent, rng: &mut Rng) -> &'a mut [u16] {
@@ -16,9 +17,28 @@ fn in_use(c: &[u16], rng: &mut Rng) -> Option<usize> {
     (1..=250).contains(&c[531]).then(|| rng.below(c[531] as usize))
 }
 
+/// A used triple (m, cursor, filled) of the gate.
+fn triple<'a>(l: &'a mut Lent, rng: &mut Rng) -> &'a mut [u16] {
+    let i = rng.below(l.gate[5].clamp(1, 8) as usize);
+    &mut l.gate[6 + 3 * i..9 + 3 * i]
+}
+
+/// Its first unused triple; its last one if there is none.
+fn unused(l: &mut Lent) -> &mut [u16] {
+    let i = l.gate[5].min(7) as usize;
+    &mut l.gate[6 + 3 * i..9 + 3 * i]
+}
+
+/// As long as the gate's u16 store asks for, if that is near.
+fn fit(l: &mut Lent) {
+    let lengths = l.gate[6..30].chunks(3).take(l.gate[5] as usize).map(|t| t[0]);
+    l.gate_f_len = gate_floats(l.gate[0] as usize, lengths).min(1 << 16);
+    l.gate_f.resize(l.gate_f_len + 4, 7.5);
+}
+
 type Fault = (&'static str, fn(&mut Lent, &mut Rng));
 
-const FAULTS: [Fault; 40] = [
+const FAULTS: [Fault; 95] = [
     ("no u16 store", |l, _| l.u_len = 0),
     ("u16 store of 1", |l, _| l.u_len = 1),
     ("u16 store of 2", |l, _| l.u_len = 2),
@@ -88,63 +108,151 @@ const FAULTS: [Fault; 40] = [
         l.db[k] = f64::NAN
     }),
     ("channel n", |l, _| l.k = l.n),
+    ("no gate u16 store", |l, _| l.gate_len = 0),
+    ("gate u16 store of 5", |l, _| l.gate_len = 5),
+    ("gate u16 store one short", |l, _| l.gate_len = 29),
+    ("gate u16 store one long", |l, _| l.gate_len = 31),
+    ("no gate f64 store", |l, _| l.gate_f_len = 0),
+    ("gate f64 store one short", |l, _| l.gate_f_len = l.gate_f_len.saturating_sub(1)),
+    ("gate f64 store one long", |l, _| l.gate_f_len += (l.gate_f_len < l.gate_f.len()) as usize),
+    ("gate n 0", |l, _| l.gate[0] = 0),
+    ("gate n 0, f64 store to fit", |l, _| {
+        l.gate[0] = 0;
+        fit(l)
+    }),
+    ("gate n 513", |l, _| l.gate[0] = 513),
+    ("gate n one more, f64 store to fit", |l, _| {
+        l.gate[0] = l.gate[0].wrapping_add(1);
+        fit(l)
+    }),
+    ("gate n one less, f64 store to fit", |l, _| {
+        l.gate[0] = l.gate[0].wrapping_sub(1);
+        fit(l)
+    }),
+    ("gate started 2", |l, _| l.gate[1] = 2),
+    ("gate started 65535", |l, _| l.gate[1] = 65535),
+    ("on 1601", |l, _| l.gate[2] = 1601),
+    ("on 65535", |l, _| l.gate[2] = 65535),
+    ("off 1601", |l, _| l.gate[3] = 1601),
+    ("off 65535", |l, _| l.gate[3] = 65535),
+    ("early 1601", |l, _| l.gate[4] = 1601),
+    ("early 65534", |l, _| l.gate[4] = 65534),
+    ("no length", |l, _| l.gate[5] = 0),
+    ("no length, the rest to fit", |l, _| {
+        l.gate[5..].fill(0);
+        fit(l)
+    }),
+    ("9 lengths", |l, _| l.gate[5] = 9),
+    ("65535 lengths", |l, _| l.gate[5] = 65535),
+    ("one length more", |l, _| l.gate[5] = l.gate[5].wrapping_add(1)),
+    ("one length less, f64 store to fit", |l, _| {
+        l.gate[5] = l.gate[5].wrapping_sub(1);
+        fit(l)
+    }),
+    ("a length of 0, f64 store to fit", |l, rng| {
+        triple(l, rng).fill(0);
+        fit(l)
+    }),
+    ("a length of 376, f64 store to fit", |l, rng| {
+        triple(l, rng).copy_from_slice(&[376, 3, 3]);
+        fit(l)
+    }),
+    ("a length of 32768", |l, rng| triple(l, rng).copy_from_slice(&[32768, 0, 0])),
+    ("a double, f64 store to fit", |l, rng| {
+        let other = triple(l, rng).to_vec();
+        triple(l, rng).copy_from_slice(&other);
+        fit(l)
+    }),
+    ("cursor 2m", |l, rng| {
+        let t = triple(l, rng);
+        t[1] = t[0].wrapping_mul(2)
+    }),
+    ("cursor 65535", |l, rng| triple(l, rng)[1] = 65535),
+    ("cursor elsewhere", |l, rng| {
+        let t = triple(l, rng);
+        t[1] = t[1].wrapping_add(1) % t[0].wrapping_mul(2).max(1)
+    }),
+    ("filled 2m + 1", |l, rng| {
+        let t = triple(l, rng);
+        t[2] = t[0].wrapping_mul(2).wrapping_add(1)
+    }),
+    ("filled one less", |l, rng| {
+        let t = triple(l, rng);
+        t[2] = t[2].wrapping_sub(1)
+    }),
+    ("an unused length", |l, _| unused(l)[0] = 1),
+    ("an unused cursor", |l, _| unused(l)[1] = 1),
+    ("an unused filled", |l, _| unused(l)[2] = 1),
+    ("last word of the gate", |l, _| l.gate[29] = l.gate[29].wrapping_add(1)),
+    ("no rise", |l, _| l.rise_len = 0),
+    ("rise one short", |l, _| l.rise_len = l.rise_len.saturating_sub(1)),
+    ("rise one long", |l, _| l.rise_len += 1),
+    ("drop one short", |l, _| l.drop_len = l.drop_len.saturating_sub(1)),
+    ("drop one long", |l, _| l.drop_len += 1),
+    ("made with n 0", |l, _| l.n = 0),
+    ("made with n 513", |l, _| l.n = 513),
+    ("made with no lengths", |l, _| l.lengths.clear()),
+    ("made with 9 lengths", |l, _| l.lengths.resize(9, 1)),
+    ("made with a length of 0", |l, rng| l.lengths.insert(rng.below(l.lengths.len() + 1), 0)),
+    ("made with a length of 376", |l, _| l.lengths.push(376)),
+    ("on of 801", |l, rng| l.levels[0] = rng.pick(&[801, i32::MAX, ABSENT])),
+    ("on of -801", |l, rng| l.levels[0] = rng.pick(&[-801, i32::MIN])),
+    ("off of 801", |l, rng| l.levels[1] = rng.pick(&[801, -801, i32::MIN, i32::MAX, ABSENT])),
+    ("early of 801", |l, rng| l.levels[2] = rng.pick(&[801, 65534, 65536, i32::MAX])),
+    ("early of -801", |l, rng| l.levels[2] = rng.pick(&[-801, -1 - 65535, i32::MIN])),
 ];
 
-/// Each fault alone, and `pairs` in a hundred of the pairs; `alone` counts the soundness rules that were broken with no other.
-pub fn singles_and_pairs(t: &mut Tally, l: &Lent, rng: &mut Rng, pairs: usize, alone: &mut [u64; 9]) {
+/// Each fault alone, and `pairs` in a hundred of the pairs.
+pub fn singles_and_pairs(t: &mut Tally, l: &Lent, rng: &mut Rng, pairs: usize, alone: &mut Alone) {
     let n = l.n;
-    for (name, fault) in &FAULTS {
+    for (i, (first, one)) in FAULTS.iter().enumerate() {
         let mut bad = l.clone();
-        fault(&mut bad, rng);
-        let c = bad.call();
-        if !STORE.iter().any(|r| (r.broken)(&c)) {
-            let broken: Vec<_> = (0..9).filter(|&i| (SOUND[i].broken)(&c)).collect();
-            if let [only] = broken[..] {
-                alone[only] += 1;
-            }
-        }
-        every_call(t, format_args!("n {n}, {name}"), &bad);
-    }
-    for (first, one) in &FAULTS {
-        for (second, two) in &FAULTS {
+        one(&mut bad, rng);
+        count_alone(&bad.call(), alone);
+        every_call(t, format_args!("n {n}, {first}"), &bad);
+        for (second, two) in &FAULTS[i..] {
             if rng.below(100) < pairs {
-                let mut bad = l.clone();
-                one(&mut bad, rng);
-                two(&mut bad, rng);
-                every_call(t, format_args!("n {n}, {first} and {second}"), &bad);
+                let mut worse = bad.clone();
+                two(&mut worse, rng);
+                every_call(t, format_args!("n {n}, {first} and {second}"), &worse);
             }
         }
     }
 }
 
-/// One or two words of the store replaced, and slices of any length.
+/// One or two words of a store replaced, and slices of any length.
 pub fn any_words(t: &mut Tally, l: &Lent, rng: &mut Rng, times: usize) {
     for _ in 0..times {
         let mut bad = l.clone();
         for _ in 0..1 + rng.below(2) {
-            let i = rng.below(l.u_len);
-            bad.u[i] = match rng.below(4) {
+            let store = if rng.one_in(2) { &mut bad.gate[..l.gate_len] } else { &mut bad.u[..l.u_len] };
+            let word = &mut store[rng.below(store.len())];
+            *word = match rng.below(4) {
                 0 => rng.next() as u16,
                 1 => rng.below(300) as u16,
-                2 => bad.u[i].wrapping_add(1),
-                _ => bad.u[i].wrapping_sub(1),
+                2 => word.wrapping_add(1),
+                _ => word.wrapping_sub(1),
             };
         }
         every_call(t, format_args!("n {}, words changed", l.n), &bad);
         let mut cut = l.clone();
-        match rng.below(4) {
+        match rng.below(8) {
             0 => cut.u_len = rng.below(cut.u.len()),
             1 => cut.f_len = rng.below(cut.f.len()),
             2 => cut.db_len = rng.below(cut.db.len()),
-            _ => cut.power_len = rng.below(cut.power.len()),
+            3 => cut.power_len = rng.below(cut.power.len()),
+            4 => cut.gate_len = rng.below(cut.gate.len()),
+            5 => cut.gate_f_len = rng.below(cut.gate_f.len()),
+            6 => cut.rise_len = rng.below(cut.rise.len()),
+            _ => cut.drop_len = rng.below(cut.drop.len()),
         }
         cut.k = rng.pick(&[0, l.n - 1, l.n, l.n + 1, 65536, 1 << 32, usize::MAX / 533, usize::MAX - 1, usize::MAX]);
         every_call(t, format_args!("n {}, slices cut, k {}", l.n, cut.k), &cut);
     }
 }
 
-/// Stores that are sound and nothing more, with any floats, stepped and read.
-pub fn any_sound_store(t: &mut Tally, n: usize, rng: &mut Rng) {
+/// A bank that is sound and nothing more, with any floats.
+fn any_bank(n: usize, rng: &mut Rng) -> (Vec<u16>, Vec<f64>) {
     let (mut u, mut f) = FloorBank::new(n).to_stores();
     let blocks = n.div_ceil(32);
     u[1] = rng.pick(&[0, 0, 0, 1, 7, 14]);
@@ -163,19 +271,67 @@ pub fn any_sound_store(t: &mut Tally, n: usize, rng: &mut Rng) {
         c[531] = filled as u16;
         c[532] = rng.below(c[250] as usize + 1) as u16;
     }
-    f.iter_mut().for_each(|x| *x = any_f64(rng));
-    let db: Vec<f64> = (0..n).map(|_| any_f64(rng)).map(|x| if x.is_nan() && n > 1 { -0.0 } else { x }).collect();
-    let power: Vec<f32> = (0..n).map(|_| any_f32(rng)).collect();
-    let mut l = Lent::new(&u, &f, &db, &power);
-    l.k = rng.below(n);
-    l.hold = rng.pick(&[None, Some(false), Some(true)]);
-    every_call(t, format_args!("n {n}, a sound store"), &l);
+    let usual = rng.one_in(2);
+    f.iter_mut().for_each(|x| *x = if usual { -150.0 + 140.0 * rng.unit() } else { any_f64(rng) });
+    (u, f)
 }
 
-/// Making, and the lengths, for any n.
+/// A gate that is sound and nothing more, with any floats; sums and smoothed dB often stand at the very edge of a rise or a drop.
+fn any_gate(bank: &(Vec<u16>, Vec<f64>), levels: [i32; 3], lengths: &[u16], rng: &mut Rng) -> (Vec<u16>, Vec<f64>) {
+    let oracle = FloorBank::of_stores(&bank.0, &bank.1);
+    let n = oracle.n_channels();
+    let (mut g, mut f) = Gate::made(n, levels, lengths).to_stores();
+    g[1] = (!rng.one_in(4)) as u16;
+    let [on, off, early] = levels.map(|x| x as f64 / 8.0);
+    f.iter_mut().for_each(|x| *x = any_f64(rng));
+    for k in 0..n {
+        let level = rng.pick(&[off, early]);
+        f[k] = beside(rng, oracle.effective_floor_db(k) + level);
+    }
+    let mut at = n;
+    for l in g[6..].chunks_exact_mut(3).take_while(|l| l[0] > 0) {
+        let m = l[0] as usize;
+        let filled = if rng.one_in(3) { rng.below(2 * m + 1) } else { 2 * m };
+        let elsewhere = if rng.one_in(2) { rng.below(2 * m) } else { 2 * m - 1 };
+        l[1] = if filled < 2 * m { filled } else { elsewhere } as u16;
+        l[2] = filled as u16;
+        at += 2 * m * n;
+        let one_for_all = floor::ladder(oracle.rise_floor_db(rng.below(n)) + on) * m as f64;
+        for k in 0..n {
+            let edge = if rng.one_in(2) { one_for_all } else { floor::ladder(oracle.rise_floor_db(k) + on) * m as f64 };
+            f[at + k] = beside(rng, edge);
+            f[at + n + k] = beside(rng, edge);
+        }
+        at += 2 * n;
+    }
+    (g, f)
+}
+
+/// Sound stores, stepped, judged and read.
+pub fn any_sound_store(t: &mut Tally, n: usize, rng: &mut Rng) {
+    let bank = any_bank(n, rng);
+    let levels = any_levels(rng);
+    let most = if n < 40 && rng.one_in(4) { 375 } else { 6 };
+    let lengths = any_lengths(rng, most);
+    let gate = any_gate(&bank, levels, &lengths, rng);
+    let db: Vec<f64> = (0..n).map(|_| any_f64(rng)).map(|x| if x.is_nan() && n > 1 { -0.0 } else { x }).collect();
+    let power: Vec<f32> = (0..n).map(|_| any_f32(rng)).collect();
+    let mut l = Lent::new(&bank, &gate, &db, &power, levels, &lengths);
+    l.k = rng.below(n);
+    l.hold = rng.pick(&[None, Some(false), Some(true)]);
+    every_call(t, format_args!("n {n}, sound stores"), &l);
+}
+
+const HUGE: [usize; 8] =
+    [1 << 16, (1 << 16) + 1, 1 << 32, (1 << 32) + 32, usize::MAX / 533, usize::MAX - 31, usize::MAX - 1, usize::MAX];
+
+fn garbage(len: usize, f_len: usize, rng: &mut Rng) -> (Vec<u16>, Vec<f64>) {
+    ((0..len).map(|_| rng.next() as u16).collect(), (0..f_len).map(|_| any_f64(rng)).collect())
+}
+
+/// The making of banks, and their lengths, for any n.
 pub fn any_n(t: &mut Tally, rng: &mut Rng) {
-    let huge = [1 << 16, (1 << 16) + 1, 1 << 32, (1 << 32) + 32, usize::MAX / 533, usize::MAX - 31, usize::MAX - 1, usize::MAX];
-    for n in (0..600).chain(huge) {
+    for n in (0..600).chain(HUGE) {
         let lens = if (1..=512).contains(&n) {
             let (u, f) = FloorBank::new(n).to_stores();
             (u.len(), f.len())
@@ -184,14 +340,46 @@ pub fn any_n(t: &mut Tally, rng: &mut Rng) {
         };
         let got = unsafe { (lib::wolfcloak_bank_len(n), lib::wolfcloak_bank_f_len(n)) };
         t.check(got == lens, format_args!("bank_len, bank_f_len of {n}: {got:?}, and {lens:?} are due"));
-        let garbage: Vec<u16> = (0..lens.0.max(1)).map(|_| rng.next() as u16).collect();
-        let floats: Vec<f64> = (0..lens.1.max(1)).map(|_| any_f64(rng)).collect();
-        let mut l = Lent::new(&garbage, &floats, &[], &[]);
+        let mut l = Lent::new(&garbage(lens.0, lens.1, rng), &garbage(30, 0, rng), &[], &[], [0; 3], &[]);
         l.n = n;
-        (l.u_len, l.f_len) = lens;
         for (u_len, f_len) in [lens, (lens.0 + 1, lens.1), (lens.0, lens.1 + 1), (lens.0.max(1) - 1, lens.1), (lens.0, 0)] {
             (l.u_len, l.f_len) = (u_len, f_len);
             making(t, format_args!("bank_new {n}, lengths {u_len} and {f_len}"), &l);
         }
+    }
+}
+
+/// The making of gates, and their length, for any n, levels and lengths.
+pub fn any_settings(t: &mut Tally, rng: &mut Rng) {
+    for turn in 0..3000 {
+        let n = match rng.below(8) {
+            0 => rng.pick(&[0, 513, 600, 65536]),
+            1 => rng.pick(&HUGE),
+            2 => rng.pick(&[511, 512]),
+            _ => 1 + rng.below(40),
+        };
+        let most = if n < 100 { rng.pick(&[375, 377]) } else { 9 };
+        let mut lengths = any_lengths(rng, most);
+        match rng.below(12) {
+            0 => lengths.clear(),
+            1 => lengths.resize(rng.pick(&[8, 9, 300]), rng.pick(&[1, 2])),
+            2 => lengths[0] = rng.pick(&[0, 376, 65535, 32768]),
+            _ => (),
+        }
+        let mut levels = any_levels(rng);
+        if rng.one_in(4) {
+            levels[rng.below(3)] = rng.pick(&[801, -801, 65535, 65534, 65536, -65535, i32::MIN, i32::MAX]);
+        }
+        let good = (1..=512).contains(&n) && (1..=8).contains(&lengths.len()) && lengths.iter().all(|m| (1..=375).contains(m));
+        let due = if good { gate_floats(n, lengths.iter().copied()) } else { 0 };
+        let got = lib::gate_f_len(n, &lengths);
+        t.check(got == due, format_args!("gate_f_len of {n}, {lengths:?}: {got}, and {due} is due"));
+        let mut l = Lent::new(&garbage(3, 0, rng), &garbage(30, due, rng), &[], &[], levels, &lengths);
+        l.n = n;
+        if turn % 3 == 0 {
+            l.gate_len = rng.pick(&[0, 6, 29, 30, 31]);
+            l.gate_f_len = rng.pick(&[0, due, due + 1, due.max(1) - 1]);
+        }
+        gate_making(t, format_args!("gate_new {n}, {levels:?}, {lengths:?}"), &l);
     }
 }

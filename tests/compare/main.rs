@@ -1,5 +1,5 @@
 // The library beside floor.rs: the same calls, every answer, store word and reading compared.
-//   compare [SEED]          compare; the last line has the counts; status 1 if there is a difference
+//   compare [SEED [JOBS]]   compare, all jobs or the first JOBS; the last line has the counts; status 1 if there is a difference
 //   compare sample FILE     write the kept list of calls with floor.rs's answers (README.md)
 mod calls;
 #[path = "build/channelizer.rs"]
@@ -8,6 +8,7 @@ mod faults;
 #[allow(dead_code)]
 #[path = "build/floor.rs"]
 mod floor;
+mod history;
 mod numbers;
 mod rules;
 mod runs;
@@ -15,42 +16,51 @@ mod sample;
 mod tally;
 mod wolfcloak;
 
+use history::SETTINGS;
 use numbers::Rng;
-use runs::PLANS;
+use rules::Alone;
+use runs::{LENGTHS, PLANS};
 use std::sync::atomic::{AtomicUsize, Ordering};
 use tally::Tally;
 
-const SIZES: [usize; 10] = [1, 2, 3, 31, 32, 33, 64, 65, 511, 512];
+const SIZES: [usize; 13] = [1, 2, 3, 4, 5, 6, 31, 32, 33, 64, 65, 511, 512];
 
-/// Job i: the making of banks, arbitrary stores of some size, or a run of some size and plan.
-fn job(i: usize, seed: u64, alone: &mut [u64; 9]) -> Option<Tally> {
+/// Job i: the making of banks and gates, two histories, arbitrary stores of some size, or a run of some size and plan.
+fn job(i: usize, seed: u64, alone: &mut Alone) -> Option<Tally> {
     let mut t = Tally::default();
     let mut rng = Rng(seed ^ (i as u64) << 32);
-    let run = i.wrapping_sub(1 + SIZES.len());
+    let histories = SETTINGS.len();
     if i == 0 {
         faults::any_n(&mut t, &mut rng);
-    } else if i <= SIZES.len() {
-        let n = SIZES[i - 1];
+        faults::any_settings(&mut t, &mut rng);
+        history::no_call_too_many(&mut t);
+    } else if i <= histories {
+        history::any_histories(&mut t, &SETTINGS[i - 1], &mut rng);
+    } else if i <= histories + SIZES.len() {
+        let n = SIZES[i - histories - 1];
         (0..6000 / (n + 10)).for_each(|_| faults::any_sound_store(&mut t, n, &mut rng));
     } else {
+        let run = i - histories - SIZES.len() - 1;
         let n = *SIZES.get(run / PLANS.len())?;
-        runs::run(&mut t, n, &PLANS[run % PLANS.len()], &mut rng, alone);
+        runs::run(&mut t, n, &PLANS[run % PLANS.len()], LENGTHS[run % LENGTHS.len()], &mut rng, alone);
     }
     Some(t)
 }
 
 fn main() {
     let args: Vec<String> = std::env::args().skip(1).collect();
-    if let [word, file] = &args[..] {
-        assert!(word == "sample");
-        std::fs::write(file, sample::list()).unwrap();
+    if args.first().is_some_and(|word| word == "sample") {
+        std::fs::write(&args[1], sample::list()).unwrap();
         return;
     }
     let seed = args.first().map_or(20261115, |s| s.parse().expect("a seed is a number"));
+    let jobs = args.get(1).map_or(usize::MAX, |s| s.parse().expect("how many jobs is a number"));
     let next = AtomicUsize::new(0);
     let worker = || {
-        let (mut t, mut alone) = (Tally::default(), [0; 9]);
-        while let Some(more) = job(next.fetch_add(1, Ordering::Relaxed), seed, &mut alone) {
+        let (mut t, mut alone) = (Tally::default(), [0; 21]);
+        loop {
+            let i = next.fetch_add(1, Ordering::Relaxed);
+            let Some(more) = (i < jobs).then(|| job(i, seed, &mut alone)).flatten() else { break };
             t.add(more);
             if t.differences > 1000 {
                 break;
@@ -58,21 +68,24 @@ fn main() {
         }
         (t, alone)
     };
-    let (mut t, mut alone) = (Tally::default(), [0; 9]);
+    let (mut t, mut alone) = (Tally::default(), [0; 21]);
     std::thread::scope(|s| {
         let both = [s.spawn(worker), s.spawn(worker)];
         for (part, its) in both.map(|w| w.join().unwrap()) {
             t.add(part);
-            (0..9).for_each(|i| alone[i] += its[i]);
+            (0..21).for_each(|i| alone[i] += its[i]);
         }
     });
-    for (rule, times) in rules::SOUND.iter().zip(alone) {
-        t.check(times > 0, format_args!("the rule '{}' was never broken alone", rule.name));
+    for (rule, times) in rules::SOUND.iter().chain(&rules::GATE_SOUND).zip(alone) {
+        t.check(times > 0 || jobs < usize::MAX, format_args!("the rule '{}' was never broken alone", rule.name));
     }
+    let [floors, rises] = t.parted;
+    t.check(floors > 0 && rises > 0, format_args!("histories made no difference before the end of the further list"));
     t.first.iter().for_each(|d| println!("difference: {d}"));
+    println!("{} pairs of histories: floors parted for a while in {floors}, rises in {rises}", SETTINGS.len());
     println!(
-        "seed {seed}: {} channel-hops, {} comparisons, {} differences",
-        t.channel_hops, t.compared, t.differences
+        "seed {seed}: {} channel-hops, {} rises, {} drops, {} comparisons, {} differences",
+        t.channel_hops, t.rises, t.drops, t.compared, t.differences
     );
     std::process::exit((t.differences > 0) as i32);
 }

@@ -76,6 +76,29 @@ pub fn finite_f32(rng: &mut Rng) -> f32 {
     if x.is_finite() { x } else { 1e-9 }
 }
 
+/// x, a neighbour of it, or any float.
+pub fn beside(rng: &mut Rng, x: f64) -> f64 {
+    match rng.below(5) {
+        0 => x.next_up(),
+        1 => x.next_down(),
+        2 => any_f64(rng),
+        _ => x,
+    }
+}
+
+/// Levels on, off and early that making takes: for early, 65535 is absent.
+pub fn any_levels(rng: &mut Rng) -> [i32; 3] {
+    let mut level = || rng.pick(&[-800, -161, -8, 0, 1, 16, 24, 31, 48, 80, 801, 800]);
+    let [on, off, early] = [level(), level(), level()];
+    [on.min(800), off.min(800), if early == 801 || rng.one_in(3) { 65535 } else { early }]
+}
+
+/// One to eight window lengths, doubles among them.
+pub fn any_lengths(rng: &mut Rng, most: usize) -> Vec<u16> {
+    let among = 1 + rng.below(most);
+    (0..1 + rng.below(8)).map(|_| if rng.one_in(3) { among } else { 1 + rng.below(among) } as u16).collect()
+}
+
 /// What a set hears.
 #[derive(Clone, Copy, PartialEq)]
 pub enum Feed {

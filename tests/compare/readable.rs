@@ -1,4 +1,16 @@
-// Put at the end of floor.rs: its fields as document 01 lays them out in the two lent stores, and back.
+// Put at the end of floor.rs: the ladder, and the fields as document 01 lays them out in the lent stores, and back.
+
+/// Document 01's ladder; T and TENS are written by oracle.py.
+pub fn ladder(s: f64) -> f64 {
+    if s.is_nan() {
+        return f64::NAN;
+    }
+    let i = (8.0 * s.clamp(-240.0, 400.0)).floor() as i32;
+    let q = i.div_euclid(80);
+    let j = i - 80 * q;
+    T[j as usize] as f64 * TENS[(q + 24) as usize]
+}
+
 impl FloorBank {
     pub fn to_stores(&self) -> (Vec<u16>, Vec<f64>) {
         let phase = (self.hop_counter % DECIMATION_HOPS) as u16;
@@ -56,5 +68,61 @@ impl FloorBank {
 
     pub fn ring(&self, k: usize) -> &[u16] {
         &self.channels[k].ring
+    }
+}
+
+/// An early level that is absent.
+pub const ABSENT: i32 = 65535;
+
+impl Gate {
+    /// Levels on, off and early in eighths of a dB.
+    pub fn made(n: usize, levels: [i32; 3], lengths: &[u16]) -> Self {
+        let [on, off, early] = levels.map(|x| x as f32 / 8.0);
+        let gate = Gate::new(n, on, off, lengths);
+        if levels[2] == ABSENT { gate } else { gate.with_ema_rise(early) }
+    }
+
+    pub fn words(&self) -> Vec<u16> {
+        let started = self.initialized[0];
+        assert!(self.initialized.iter().all(|&s| s == started));
+        let level = |x: f32| (x * 8.0 + 800.0) as u16;
+        let early = self.ema_on_snr_db.map_or(ABSENT as u16, level);
+        let n = self.smoothed_db.len() as u16;
+        let mut u = vec![n, started as u16, level(self.on_snr_db), level(self.off_snr_db), early, self.looks.len() as u16];
+        u.extend(self.looks.iter().flat_map(|l| [l.m as u16, l.cursor as u16, l.filled as u16]));
+        u.resize(30, 0);
+        u
+    }
+
+    /// The f64 store in its order: smoothed, then ring, recent and previous of each length.
+    pub fn floats(&self) -> Vec<&[f64]> {
+        let looks = self.looks.iter().flat_map(|l| [&l.ring[..], &l.recent, &l.previous]);
+        std::iter::once(&self.smoothed_db[..]).chain(looks).collect()
+    }
+
+    pub fn to_stores(&self) -> (Vec<u16>, Vec<f64>) {
+        (self.words(), self.floats().concat())
+    }
+
+    /// Of sound stores.
+    pub fn of_stores(u: &[u16], f: &[f64]) -> Self {
+        let n = u[0] as usize;
+        let lengths: Vec<u16> = (0..u[5] as usize).map(|i| u[6 + 3 * i]).collect();
+        let mut gate = Gate::made(n, [u[2], u[3], u[4]].map(|x| if x == 65535 { ABSENT } else { x as i32 - 800 }), &lengths);
+        let mut at = 0;
+        let mut part = |to: &mut [f64]| {
+            to.copy_from_slice(&f[at..at + to.len()]);
+            at += to.len();
+        };
+        gate.initialized.fill(u[1] == 1);
+        part(&mut gate.smoothed_db);
+        for (i, look) in gate.looks.iter_mut().enumerate() {
+            look.cursor = u[7 + 3 * i] as usize;
+            look.filled = u[8 + 3 * i] as usize;
+            part(&mut look.ring);
+            part(&mut look.recent);
+            part(&mut look.previous);
+        }
+        gate
     }
 }

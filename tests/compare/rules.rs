@@ -1,5 +1,6 @@
-// Document 01's refusals of the bank, rule by rule in its order. A rule may lean on those before it.
+// Document 01's refusals, rule by rule in its order. A rule may lean on those before it.
 use crate::calls::Call;
+use crate::floor::ABSENT;
 
 pub struct Rule {
     pub name: &'static str,
@@ -63,6 +64,91 @@ pub const UPDATE: [Rule; 3] = [
 ];
 
 pub const READ: [Rule; 1] = [rule("channel", 7, |c| c.k >= header(c))];
+
+// ---- the gate
+
+/// The used triples (m, cursor, filled).
+fn a_length(c: &Call, wrong: impl Fn(u16, u16, u16) -> bool) -> bool {
+    c.gate[6..].chunks(3).take(c.gate[5] as usize).any(|t| wrong(t[0], t[1], t[2]))
+}
+
+fn a_double(c: &Call) -> bool {
+    let used: Vec<u16> = c.gate[6..].chunks(3).take(c.gate[5] as usize).map(|t| t[0]).collect();
+    (1..used.len()).any(|i| used[..i].contains(&used[i]))
+}
+
+fn is_level(x: i32) -> bool {
+    (-800..=800).contains(&x)
+}
+
+/// How many floats a gate of n channels and these lengths takes, doubles dropped.
+pub fn gate_floats(n: usize, lengths: impl Iterator<Item = u16>) -> usize {
+    let distinct: std::collections::BTreeSet<u16> = lengths.collect();
+    n + distinct.into_iter().map(|m| 2 * m as usize * n + 2 * n).sum::<usize>()
+}
+
+pub const GATE_MAKING: [Rule; 6] = [
+    rule("band", 1, |c| !(1..=512).contains(&c.n)),
+    rule("number of lengths", 3, |c| !(1..=8).contains(&c.lengths.len())),
+    rule("a length", 3, |c| c.lengths.iter().any(|m| !(1..=375).contains(m))),
+    rule("level", 4, |c| {
+        let [on, off, early] = c.levels;
+        !is_level(on) || !is_level(off) || (early != ABSENT && !is_level(early))
+    }),
+    rule("gate's u16 length", 2, |c| c.gate.len() != 30),
+    rule("gate's f64 length", 2, |c| c.gate_f.len() != gate_floats(c.n, c.lengths.iter().copied())),
+];
+
+pub const GATE_STORE: [Rule; 1] = [rule("gate's u16 length", 2, |c| c.gate.len() != 30)];
+
+pub const GATE_SOUND: [Rule; 12] = [
+    rule("gate's n", 9, |c| !(1..=512).contains(&c.gate[0])),
+    rule("gate's started", 9, |c| c.gate[1] > 1),
+    rule("on", 9, |c| c.gate[2] > 1600),
+    rule("off", 9, |c| c.gate[3] > 1600),
+    rule("early", 9, |c| c.gate[4] > 1600 && c.gate[4] != 65535),
+    rule("1 to 8 lengths", 9, |c| !(1..=8).contains(&c.gate[5])),
+    rule("a length of 1 to 375", 9, |c| a_length(c, |m, _, _| !(1..=375).contains(&m))),
+    rule("lengths distinct", 9, a_double),
+    rule("cursor below 2m", 9, |c| a_length(c, |m, cursor, _| cursor as u32 >= 2 * m as u32)),
+    rule("filled at most 2m", 9, |c| a_length(c, |m, _, filled| filled as u32 > 2 * m as u32)),
+    rule("cursor is filled", 9, |c| a_length(c, |m, cursor, filled| (filled as u32) < 2 * m as u32 && cursor != filled)),
+    rule("unused zero", 9, |c| c.gate[6..].iter().skip(3 * c.gate[5] as usize).any(|&x| x != 0)),
+];
+
+pub const GATE_FLOATS: [Rule; 1] = [rule("gate's f64 length", 2, |c| {
+    c.gate_f.len() != gate_floats(c.gate[0] as usize, c.gate[6..].chunks(3).take(c.gate[5] as usize).map(|t| t[0]))
+})];
+
+pub const PAIR: [Rule; 1] = [rule("mismatch", 8, |c| c.u[0] != c.gate[0])];
+
+pub const GATE_UPDATE: [Rule; 4] = [
+    rule("dB length", 5, |c| c.db.len() != c.gate[0] as usize),
+    rule("power length", 5, |c| c.power.len() != c.gate[0] as usize),
+    rule("rise length", 5, |c| c.rise.len() != c.gate[0] as usize),
+    rule("drop length", 5, |c| c.drop.len() != c.gate[0] as usize),
+];
+
+pub const GATE_HOLD: [Rule; 2] = [
+    rule("rise length", 5, |c| c.rise.len() != c.gate[0] as usize),
+    rule("drop length", 5, |c| c.drop.len() != c.gate[0] as usize),
+];
+
+pub const GATE_READ: [Rule; 1] = [rule("channel", 7, |c| c.k >= c.gate[0] as usize)];
+
+/// How often each rule of "Sound" was broken with no other, the bank's first.
+pub type Alone = [u64; SOUND.len() + GATE_SOUND.len()];
+
+/// Counts the one rule of "Sound" that is broken, if it is one and the lengths leave it to be tested.
+pub fn count_alone(c: &Call, alone: &mut Alone) {
+    if refusal(c, &[&STORE, &GATE_STORE]) != 0 {
+        return;
+    }
+    let broken: Vec<usize> = SOUND.iter().chain(&GATE_SOUND).enumerate().filter(|(_, r)| (r.broken)(c)).map(|(i, _)| i).collect();
+    if let [only] = broken[..] {
+        alone[only] += 1;
+    }
+}
 
 /// A NaN dB in a block of two or more channels.
 pub fn garbled(db: &[f64]) -> bool {

@@ -5,6 +5,10 @@ use std::fmt::Arguments;
 #[derive(Default)]
 pub struct Tally {
     pub channel_hops: u64,
+    pub rises: u64,
+    pub drops: u64,
+    /// pairs of histories whose floors, and whose rises, differed for a while
+    pub parted: [u64; 2],
     pub compared: u64,
     pub differences: u64,
     pub first: Vec<String>,
@@ -49,6 +53,9 @@ impl Tally {
 
     pub fn add(&mut self, other: Tally) {
         self.channel_hops += other.channel_hops;
+        self.rises += other.rises;
+        self.drops += other.drops;
+        (0..2).for_each(|i| self.parted[i] += other.parted[i]);
         self.compared += other.compared;
         self.differences += other.differences;
         self.first.extend(other.first);

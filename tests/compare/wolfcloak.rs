@@ -1,4 +1,4 @@
-// The C interface of libwolfcloak.a, and a bank lent to it.
+// The C interface of libwolfcloak.a, for slices.
 #![allow(dead_code)]
 
 type Reading = unsafe extern "C" fn(*const u16, usize, *const f64, usize, usize, *mut f64) -> u16;
@@ -26,6 +26,25 @@ extern "C" {
     ) -> u16;
     fn wolfcloak_ring(
         b: *const u16, bl: usize, f: *const f64, fl: usize, k: usize, start: *mut usize, len: *mut usize,
+    ) -> u16;
+    fn wolfcloak_gate_f_len(n: usize, lengths: *const u16, lengths_len: usize) -> usize;
+    fn wolfcloak_gate_new(
+        g: *mut u16, gl: usize, h: *mut f64, hl: usize, n: usize,
+        on: i32, off: i32, early: i32, lengths: *const u16, lengths_len: usize,
+    ) -> u16;
+    fn wolfcloak_gate_update(
+        b: *const u16, bl: usize, f: *const f64, fl: usize, g: *mut u16, gl: usize, h: *mut f64, hl: usize,
+        power_db: *const f64, power_db_len: usize, power: *const f32, power_len: usize,
+        rise: *mut u8, rise_len: usize, drop: *mut u8, drop_len: usize,
+    ) -> u16;
+    fn wolfcloak_gate_hold(
+        b: *const u16, bl: usize, f: *const f64, fl: usize, g: *const u16, gl: usize, h: *const f64, hl: usize,
+        rise: *mut u8, rise_len: usize, drop: *mut u8, drop_len: usize,
+    ) -> u16;
+    fn wolfcloak_smoothed_db(g: *const u16, gl: usize, h: *const f64, hl: usize, k: usize, value: *mut f64) -> u16;
+    fn wolfcloak_ema_rise(
+        b: *const u16, bl: usize, f: *const f64, fl: usize, g: *const u16, gl: usize, h: *const f64, hl: usize,
+        k: usize, value: *mut f64,
     ) -> u16;
 }
 
@@ -74,4 +93,52 @@ pub fn floors(u: &[u16], f: &[f64], k: usize, v: &mut [f64; 3]) -> u16 {
 pub fn ring(u: &[u16], f: &[f64], k: usize, part: &mut [usize; 2]) -> u16 {
     let [start, len] = part;
     unsafe { wolfcloak_ring(u.as_ptr(), u.len(), f.as_ptr(), f.len(), k, start, len) }
+}
+
+pub fn gate_f_len(n: usize, lengths: &[u16]) -> usize {
+    unsafe { wolfcloak_gate_f_len(n, lengths.as_ptr(), lengths.len()) }
+}
+
+/// Levels on, off and early.
+pub fn gate_new(g: &mut [u16], h: &mut [f64], n: usize, levels: [i32; 3], lengths: &[u16]) -> u16 {
+    let [on, off, early] = levels;
+    let (m, ml) = (lengths.as_ptr(), lengths.len());
+    unsafe { wolfcloak_gate_new(g.as_mut_ptr(), g.len(), h.as_mut_ptr(), h.len(), n, on, off, early, m, ml) }
+}
+
+/// `bank` and `gate` are the two stores of each, `hop` dB and power, `marks` rise and drop.
+pub fn gate_update(
+    bank: (&[u16], &[f64]), gate: (&mut [u16], &mut [f64]), hop: (&[f64], &[f32]), marks: (&mut [u8], &mut [u8]),
+) -> u16 {
+    unsafe {
+        wolfcloak_gate_update(
+            bank.0.as_ptr(), bank.0.len(), bank.1.as_ptr(), bank.1.len(),
+            gate.0.as_mut_ptr(), gate.0.len(), gate.1.as_mut_ptr(), gate.1.len(),
+            hop.0.as_ptr(), hop.0.len(), hop.1.as_ptr(), hop.1.len(),
+            marks.0.as_mut_ptr(), marks.0.len(), marks.1.as_mut_ptr(), marks.1.len(),
+        )
+    }
+}
+
+pub fn gate_hold(bank: (&[u16], &[f64]), gate: (&[u16], &[f64]), marks: (&mut [u8], &mut [u8])) -> u16 {
+    unsafe {
+        wolfcloak_gate_hold(
+            bank.0.as_ptr(), bank.0.len(), bank.1.as_ptr(), bank.1.len(),
+            gate.0.as_ptr(), gate.0.len(), gate.1.as_ptr(), gate.1.len(),
+            marks.0.as_mut_ptr(), marks.0.len(), marks.1.as_mut_ptr(), marks.1.len(),
+        )
+    }
+}
+
+pub fn smoothed_db(gate: (&[u16], &[f64]), k: usize, value: &mut f64) -> u16 {
+    unsafe { wolfcloak_smoothed_db(gate.0.as_ptr(), gate.0.len(), gate.1.as_ptr(), gate.1.len(), k, value) }
+}
+
+pub fn ema_rise(bank: (&[u16], &[f64]), gate: (&[u16], &[f64]), k: usize, value: &mut f64) -> u16 {
+    unsafe {
+        wolfcloak_ema_rise(
+            bank.0.as_ptr(), bank.0.len(), bank.1.as_ptr(), bank.1.len(),
+            gate.0.as_ptr(), gate.0.len(), gate.1.as_ptr(), gate.1.len(), k, value,
+        )
+    }
 }

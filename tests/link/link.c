@@ -1,4 +1,4 @@
-/* Makes banks, feeds hops and reads floors as firmware does; the values are bench values d and h of document 01. */
+/* Makes banks and gates, feeds hops and reads floors and marks as firmware does; d and h are bench values of document 01. */
 #include "wolfcloak.h"
 #include <stdio.h>
 #include <stdlib.h>
@@ -65,10 +65,89 @@ static void bench_h(void)
     free(bank_f);
 }
 
+/* A bank of two channels that has heard noise of -100 dB, and the hops that the gates below hear: a strong tone in the second. */
+static uint16_t bank[1070]; /* 3 + 1 + 2 * 533 */
+static double bank_f[10];
+static const double tone_db[2] = {-100, -60};
+static const float tone[2] = {1e-10f, 1e-6f};
+
+static void hear_noise(void)
+{
+    static const double db[2] = {-100, -100};
+    static const float power[2] = {1e-10f, 1e-10f};
+
+    expect("bank_new", wolfcloak_bank_new(bank, 1070, bank_f, 10, 2), WOLFCLOAK_OK);
+    expect("bank_update", wolfcloak_bank_update(bank, 1070, bank_f, 10, db, 2, power, 2), WOLFCLOAK_OK);
+}
+
+static void expect_marks(const char *what, const uint8_t *marks, int first, int second)
+{
+    expect(what, marks[0], first);
+    expect(what, marks[1], second);
+}
+
+/* Windows of 2 hops, on 6 dB and off 2 dB: the tone rises with its fourth hop, when two windows are full. */
+static void window_rise(void)
+{
+    static const uint16_t lengths[2] = {2, 2};
+    uint16_t gate[WOLFCLOAK_GATE_LEN];
+    double gate_f[14], value = 0; /* 2 + (8 + 2 + 2), once */
+    uint8_t rise[2] = {9, 9}, drop[2] = {9, 9};
+
+    expect("gate_f_len", wolfcloak_gate_f_len(2, lengths, 2), 14);
+    expect("gate_new", wolfcloak_gate_new(gate, 30, gate_f, 14, 2, 48, 16, WOLFCLOAK_NO_EARLY, lengths, 2), WOLFCLOAK_OK);
+    expect("gate_hold", wolfcloak_gate_hold(bank, 1070, bank_f, 10, gate, 30, gate_f, 14, rise, 2, drop, 2), WOLFCLOAK_OK);
+    expect_marks("rise before the first hop", rise, 0, 0);
+    expect_marks("drop before the first hop", drop, 0, 0);
+    for (int hop = 1; hop <= 4; hop++) {
+        expect("gate_update", wolfcloak_gate_update(bank, 1070, bank_f, 10, gate, 30, gate_f, 14, tone_db, 2, tone, 2,
+                                                    rise, 2, drop, 2), WOLFCLOAK_OK);
+        expect_marks("window rise", rise, 0, hop == 4);
+        expect_marks("drop", drop, 1, 0);
+    }
+    rise[1] = 9;
+    expect("gate_hold", wolfcloak_gate_hold(bank, 1070, bank_f, 10, gate, 30, gate_f, 14, rise, 2, drop, 2), WOLFCLOAK_OK);
+    expect_marks("rise of a hold", rise, 0, 1);
+    expect("smoothed_db", wolfcloak_smoothed_db(gate, 30, gate_f, 14, 1, &value), WOLFCLOAK_OK);
+    expect("smoothed dB of the tone", value, -60);
+    expect("ema_rise", wolfcloak_ema_rise(bank, 1070, bank_f, 10, gate, 30, gate_f, 14, 1, &value), WOLFCLOAK_OK);
+    expect("early rise that is absent", value, 0);
+    expect("a channel too many", wolfcloak_smoothed_db(gate, 30, gate_f, 14, 2, &value), WOLFCLOAK_REFUSED_CHANNEL);
+    expect("a rise too short", wolfcloak_gate_hold(bank, 1070, bank_f, 10, gate, 30, gate_f, 14, rise, 1, drop, 2),
+           WOLFCLOAK_REFUSED_HOP_SIZE);
+}
+
+/* Early at 10 dB: the tone rises with its first hop, long before the windows are full. */
+static void early_rise(void)
+{
+    static const uint16_t lengths[1] = {1}, none[1] = {0};
+    uint16_t gate[WOLFCLOAK_GATE_LEN];
+    double gate_f[10], other_f[5], value = 7; /* 2 + (4 + 2 + 2), 1 + (2 + 1 + 1) */
+    uint8_t rise[2], drop[2];
+
+    expect("gate_new", wolfcloak_gate_new(gate, 30, gate_f, 10, 2, 800, -800, 80, lengths, 1), WOLFCLOAK_OK);
+    expect("ema_rise", wolfcloak_ema_rise(bank, 1070, bank_f, 10, gate, 30, gate_f, 10, 1, &value), WOLFCLOAK_OK);
+    expect("early rise before the first hop", value, 0);
+    expect("gate_update", wolfcloak_gate_update(bank, 1070, bank_f, 10, gate, 30, gate_f, 10, tone_db, 2, tone, 2,
+                                                rise, 2, drop, 2), WOLFCLOAK_OK);
+    expect_marks("early rise", rise, 0, 1);
+    expect_marks("drop far below", drop, 0, 0);
+    expect("ema_rise", wolfcloak_ema_rise(bank, 1070, bank_f, 10, gate, 30, gate_f, 10, 1, &value), WOLFCLOAK_OK);
+    expect("early rise alone", value, 1);
+    expect("no lengths", wolfcloak_gate_new(gate, 30, gate_f, 10, 2, 801, 0, 0, none, 0), WOLFCLOAK_REFUSED_LENGTHS);
+    expect("a level too high", wolfcloak_gate_new(gate, 30, gate_f, 10, 2, 801, 0, 0, lengths, 1), WOLFCLOAK_REFUSED_LEVEL);
+    expect("gate_new", wolfcloak_gate_new(gate, 30, other_f, 5, 1, 0, 0, 0, lengths, 1), WOLFCLOAK_OK);
+    expect("a gate of another n", wolfcloak_gate_hold(bank, 1070, bank_f, 10, gate, 30, other_f, 5, rise, 2, drop, 2),
+           WOLFCLOAK_REFUSED_MISMATCH);
+}
+
 int main(void)
 {
     bench_d();
     bench_h();
+    hear_noise();
+    window_rise();
+    early_rise();
     puts(wrong ? "tests/link: failed" : "tests/link: ok");
     return wrong != 0;
 }

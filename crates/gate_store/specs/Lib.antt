@@ -1,1 +1,3 @@
 pub mod GoodGate
+pub mod Checks
+pub mod Makes

@@ -4,3 +4,4 @@ pub mod Tabs
 pub mod Joined
 pub mod Floats
 pub mod Defaults
+pub mod Runs

@@ -40,7 +40,7 @@ module _ {A : Type 0} where
   map-replicate {B = B} g (suc n) x = ap (λ (r : List B). g x ∷ r) (map-replicate g n x)
 
   -- n lists of w equal values
-  joined-replicate : (w n : ℕ) (v : A) → joined (replicate n (replicate w v)) ≡ replicate (w * n) v
+  pub joined-replicate : (w n : ℕ) (v : A) → joined (replicate n (replicate w v)) ≡ replicate (w * n) v
   joined-replicate w zero v = ap (λ (k : ℕ). replicate k v) (sym (mul-zero w))
   joined-replicate w (suc n) v =
       ap (λ (r : List A). replicate w v ++ r) (joined-replicate w n v)

@@ -33,7 +33,7 @@ fn base(n: usize) -> usize
     3 + blocks(n)
 }
 
-fn in_band(n: usize) -> bool
+pub fn in_band(n: usize) -> bool
     ensures { λ r. ⌜ r ≡ within 1 512 n ⌝ }
 {
     if n < 1 {

@@ -7,7 +7,7 @@ ghost use Rattle.model.specs.Bank.{freshBank};
 ghost use Rattle.model.specs.Stores.{bankU, bankF, bankLen, bankFLen};
 ghost use Rattle.model.specs.Calls.{bankNew};
 
-fn zero(s: &mut [u16])
+pub fn zero(s: &mut [u16])
     ensures { λ _. ⌜ now (s .exit) ≡ replicate (length (now (s .entry))) 0 ⌝ }
 {
     let mut k: usize = 0;
@@ -17,7 +17,7 @@ fn zero(s: &mut [u16])
     }
 }
 
-fn fill(s: &mut [f64], a: usize, w: usize, v: f64)
+pub fn fill(s: &mut [f64], a: usize, w: usize, v: f64)
     requires { ⌜ a + w ≤ length (now s) ⌝ }
     ensures { λ _. ⌜ now (s .exit) ≡ splice a w (now (s .entry)) (replicate w v) ⌝ }
 {

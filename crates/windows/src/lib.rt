@@ -1,4 +1,14 @@
 // Document 01, "Windows, ladder, gate": the windows of one length, over its part of the gate's f64 store.
+ghost use mathlib.Core.Path.{_≡_};
+ghost use Prim.Native.Nat.{_*_, _<_};
+ghost use lib.ListN.{length};
+ghost use Rattle.model.specs.Numbers.{f0};
+ghost use Rattle.model.specs.Windows.{pushLook, rebaseLook, total};
+ghost use Rattle.model.specs.Gate.{sampleOf};
+ghost use Rattle.model.specs.GateStores.{lookF};
+ghost use Rattle.windows.specs.Looks.{CursorFits, LookFits, advancedOf, middleFrom, looksIn, steppedLook};
+
+pub mod rises;
 
 // Where the windows of one length stand: its length, the place of the next sample and how many places are filled.
 pub struct Cursor {
@@ -11,4 +21,121 @@ pub struct Cursor {
 pub struct Middle {
     pub cursor: Cursor,
     pub place: usize,
+}
+
+impl Cursor {
+    // One hop on: the place wraps at 2m, and filled stops there.
+    pub fn advance(self) -> Cursor
+        requires { ⌜ CursorFits self ⌝ }
+        ensures { λ r. ⌜ r ≡ advancedOf self ⌝ }
+    {
+        let m = self.m;
+        let at = self.at;
+        let filled = self.filled;
+        let width = 2 * m;
+        let next = (at + 1) % width;
+        if filled < width {
+            let grown = filled + 1;
+            return Cursor {
+                m: m,
+                at: next,
+                filled: grown,
+            };
+        }
+        Cursor {
+            m: m,
+            at: next,
+            filled: width,
+        }
+    }
+
+    // Half a ring on from the place of the next sample.
+    pub fn middle(self) -> Middle
+        requires { ⌜ CursorFits self ⌝ }
+        ensures { λ r. ⌜ (r ≡ middleFrom self) × (r .place < 2 * self .m) ⌝ }
+    {
+        let m = self.m;
+        let at = self.at;
+        let place = (at + m) % (2 * m);
+        Middle {
+            cursor: self,
+            place: place,
+        }
+    }
+}
+
+// Each channel takes its sample: previous gains (middle - old), recent gains (sample - middle), old becomes the sample.
+fn push_look(look: &mut [f64], c: Cursor, power: &[f32])
+    requires { ⌜ LookFits (now look) (length (now power)) (c .m) × CursorFits c ⌝ }
+    ensures { λ _. ⌜ now (look .exit) ≡ lookF (pushLook (length (now (power .entry))) (sampleOf (now (power .entry))) (looksIn (now (look .entry)) c (length (now (power .entry))))) ⌝ }
+{
+    let half = c.middle();
+    let middle = half.place;
+    let at = c.at;
+    let m = c.m;
+    let n = power.len();
+    let recent = 2 * m * n;
+    let previous = recent + n;
+    let mut k: usize = 0;
+    while k < n {
+        let ring = 2 * m * k;
+        let sample = block::powers::power_linear(power[k]);
+        let old = look[ring + at];
+        let mid = look[ring + middle];
+        let p = look[previous + k];
+        let r = look[recent + k];
+        look[previous + k] = p + (mid - old);
+        look[recent + k] = r + (sample - mid);
+        look[ring + at] = sample;
+        k += 1;
+    }
+}
+
+// Left to right from zero.
+fn sum(samples: &[f64]) -> f64
+    ensures { λ r. ⌜ r ≡ total f0 (now (samples .entry)) ⌝ }
+{
+    let mut s = 0.0;
+    let mut i: usize = 0;
+    while i < samples.len() {
+        s = s + samples[i];
+        i += 1;
+    }
+    s
+}
+
+// The sums taken afresh from the rings: previous of places 0 to m - 1, recent of m to 2m - 1.
+fn rebase_look(look: &mut [f64], c: Cursor, n: usize)
+    requires { ⌜ LookFits (now look) n (c .m) ⌝ }
+    ensures { λ _. ⌜ now (look .exit) ≡ lookF (rebaseLook n (looksIn (now (look .entry)) c n)) ⌝ }
+{
+    let m = c.m;
+    let recent = 2 * m * n;
+    let previous = recent + n;
+    let mut k: usize = 0;
+    while k < n {
+        let start = 2 * m * k;
+        let middle = start + m;
+        let end = middle + m;
+        let p = sum(&look[start..middle]);
+        let r = sum(&look[middle..end]);
+        look[previous + k] = p;
+        look[recent + k] = r;
+        k += 1;
+    }
+}
+
+// One hop of one length: all channels take their samples, the cursor advances, and the sums are taken afresh once a turn of the ring.
+pub fn step_look(look: &mut [f64], c: Cursor, power: &[f32]) -> Cursor
+    requires { ⌜ LookFits (now look) (length (now power)) (c .m) × CursorFits c ⌝ }
+    ensures { λ r. ⌜ (r, now (look .exit)) ≡ steppedLook (now (look .entry)) c (now (power .entry)) ⌝ }
+{
+    push_look(look, c, power);
+    let next = c.advance();
+    let at = next.at;
+    if at == 0 {
+        rebase_look(look, next, power.len());
+        return next;
+    }
+    next
 }

@@ -1,0 +1,3 @@
+pub mod Demand3
+pub mod Sets
+pub mod Exports

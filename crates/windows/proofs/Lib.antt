@@ -1,0 +1,4 @@
+pub mod Encode
+pub mod Begun
+pub mod Loops
+pub mod Steps

@@ -1,0 +1,82 @@
+/* A complete small receiver loop over libwolfcloak.a: noise on eight channels, and a tone that comes and goes on one of them. */
+#include <stdint.h>
+#include <stdio.h>
+#include <stdlib.h>
+
+#include "wolfcloak.h"
+
+enum { CHANNELS = 8, HOPS = 1500, TONE = 3 };
+
+/* A small generator, so that the program prints the same everywhere. */
+static uint32_t state = 1;
+
+static double noise(void)
+{
+    state = state * 1664525u + 1013904223u;
+    return (double)(state >> 16) / 65536.0;
+}
+
+/* One hop: about -100 dB everywhere, and the tone at -80 dB from hop 600 to hop 1,100. Linear power is 10^(dB/10). */
+static void hear(int hop, double *power_db, float *power)
+{
+    for (int k = 0; k < CHANNELS; k++) {
+        int tone = k == TONE && hop >= 600 && hop < 1100;
+        power_db[k] = (tone ? -80.0 : -100.0) + 4.0 * (noise() - 0.5);
+        power[k] = tone ? 1e-8f : 1e-10f;
+    }
+}
+
+static void stop(const char *call, uint16_t refusal)
+{
+    fprintf(stderr, "%s: refused with %u\n", call, refusal);
+    exit(1);
+}
+
+int main(void)
+{
+    const uint16_t lengths[] = {15, 75};
+    size_t bank_len = wolfcloak_bank_len(CHANNELS), bank_f_len = wolfcloak_bank_f_len(CHANNELS);
+    size_t gate_f_len = wolfcloak_gate_f_len(CHANNELS, lengths, 2);
+    uint16_t *bank = malloc(bank_len * sizeof *bank), gate[WOLFCLOAK_GATE_LEN];
+    double *bank_f = malloc(bank_f_len * sizeof *bank_f), *gate_f = malloc(gate_f_len * sizeof *gate_f);
+    if (!bank || !bank_f || !gate_f)
+        return 1;
+
+    /* on 6 dB, off 3 dB over the floor, in eighths; no early rise */
+    uint16_t r = wolfcloak_bank_new(bank, bank_len, bank_f, bank_f_len, CHANNELS);
+    if (r)
+        stop("bank_new", r);
+    r = wolfcloak_gate_new(gate, WOLFCLOAK_GATE_LEN, gate_f, gate_f_len, CHANNELS, 48, 24, WOLFCLOAK_NO_EARLY, lengths, 2);
+    if (r)
+        stop("gate_new", r);
+
+    int alive[CHANNELS] = {0};
+    for (int hop = 0; hop < HOPS; hop++) {
+        double power_db[CHANNELS];
+        float power[CHANNELS];
+        uint8_t rise[CHANNELS], drop[CHANNELS];
+        hear(hop, power_db, power);
+        r = wolfcloak_bank_update(bank, bank_len, bank_f, bank_f_len, power_db, CHANNELS, power, CHANNELS);
+        if (r)
+            stop("bank_update", r);
+        r = wolfcloak_gate_update(bank, bank_len, bank_f, bank_f_len, gate, WOLFCLOAK_GATE_LEN, gate_f, gate_f_len,
+                                  power_db, CHANNELS, power, CHANNELS, rise, CHANNELS, drop, CHANNELS);
+        if (r)
+            stop("gate_update", r);
+        for (int k = 0; k < CHANNELS; k++) {
+            int now = alive[k] ? !(drop[k] && !rise[k]) : rise[k];
+            double floor_db;
+            if (now == alive[k])
+                continue;
+            alive[k] = now;
+            r = wolfcloak_effective_floor_db(bank, bank_len, bank_f, bank_f_len, (size_t)k, &floor_db);
+            if (r)
+                stop("effective_floor_db", r);
+            printf("%7.3f s  channel %d  %s  floor %.2f dB\n", hop / 375.0, k, now ? "rise" : "drop", floor_db);
+        }
+    }
+    free(bank);
+    free(bank_f);
+    free(gate_f);
+    return 0;
+}

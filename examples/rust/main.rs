@@ -1,0 +1,70 @@
+//! A complete small receiver loop over the safe wrapper: noise on eight channels, a tone that comes and goes on one of them, and a
+//! static crash during which the gate holds.
+mod wolfcloak;
+
+use wolfcloak::{Bank, Gate, Refusal};
+
+const CHANNELS: usize = 8;
+const TONE: usize = 3;
+
+/// A small generator, so that the program prints the same everywhere.
+struct Noise(u32);
+
+impl Noise {
+    fn next(&mut self) -> f64 {
+        self.0 = self.0.wrapping_mul(1664525).wrapping_add(1013904223);
+        (self.0 >> 16) as f64 / 65536.0
+    }
+}
+
+/// One hop: about -100 dB everywhere, the tone at -80 dB from hop 600 to hop 1,100, and in a crash -60 dB everywhere.
+fn hear(hop: usize, crash: bool, noise: &mut Noise) -> ([f64; CHANNELS], [f32; CHANNELS]) {
+    let (mut db, mut power) = ([0.0; CHANNELS], [0.0; CHANNELS]);
+    for k in 0..CHANNELS {
+        let tone = k == TONE && (600..1100).contains(&hop);
+        let (level, linear) = if crash { (-60.0, 1e-6) } else if tone { (-80.0, 1e-8) } else { (-100.0, 1e-10) };
+        db[k] = level + 4.0 * (noise.next() - 0.5);
+        power[k] = linear;
+    }
+    (db, power)
+}
+
+fn run() -> Result<(), Refusal> {
+    let mut bank = Bank::new(CHANNELS)?;
+    // on 6 dB and off 3 dB over the floor, no early rise
+    let mut gate = Gate::new(CHANNELS, 48, 24, None, &[15, 75])?;
+    let (mut noise, mut alive) = (Noise(1), [false; CHANNELS]);
+    for hop in 0..1500 {
+        let crash = (300..310).contains(&hop);
+        let (db, power) = hear(hop, crash, &mut noise);
+        let (mut rise, mut drop) = ([0; CHANNELS], [0; CHANNELS]);
+        bank.update(&db, &power, crash)?;
+        if crash {
+            gate.hold(&bank, &mut rise, &mut drop)?;
+        } else {
+            gate.update(&bank, &db, &power, &mut rise, &mut drop)?;
+        }
+        for k in 0..CHANNELS {
+            let now = if alive[k] { drop[k] == 0 || rise[k] == 1 } else { rise[k] == 1 };
+            if now != alive[k] {
+                alive[k] = now;
+                let (word, floors, db) = (if now { "rise" } else { "drop" }, bank.floors(k)?, gate.smoothed_db(k)?);
+                println!(
+                    "{:7.3} s  channel {k}  {word}  {db:.2} dB over floor {:.2} dB (rise floor {:.2}, raw {:.2})",
+                    hop as f64 / 375.0,
+                    floors.effective,
+                    floors.rise,
+                    floors.raw
+                );
+            }
+        }
+    }
+    println!("a channel that is not there: {:?}", bank.floors(CHANNELS));
+    Ok(())
+}
+
+fn main() {
+    if let Err(refusal) = run() {
+        println!("refused: {refusal:?}");
+    }
+}

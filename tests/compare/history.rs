@@ -1,0 +1,232 @@
+// Demand 3, run on the library: two sets with different histories hear the same further list.
+use crate::floor::{FloorBank, Gate, ABSENT};
+use crate::numbers::{any_f64, sample, same, Feed, Rng};
+use crate::tally::Tally;
+use crate::wolfcloak as lib;
+use std::fmt::Arguments;
+
+#[derive(Clone, Copy, PartialEq)]
+enum Kind {
+    Bank,
+    Gate,
+    Hold,
+}
+
+/// One call, the same for both sets.
+struct Step {
+    kind: Kind,
+    db: Vec<f64>,
+    power: Vec<f32>,
+    hold: Option<bool>,
+    marks: usize, // how long rise and drop are
+}
+
+impl Step {
+    fn any(rng: &mut Rng, n: usize, kind: Kind, feed: Feed, hop: usize) -> Step {
+        let (db, power) = (0..n).map(|k| sample(rng, feed, hop, k)).unzip();
+        let mut s = Step { kind, db, power, hold: rng.pick(&[None, Some(false), Some(true)]), marks: n };
+        match rng.below(60) {
+            0 => drop(s.db.pop()),
+            1 => s.power.push(1.0),
+            2 => s.marks += 1,
+            3 => s.db[rng.below(n)] = f64::NAN, // refused on a slow hop
+            4 => s.db[rng.below(n)] = any_f64(rng),
+            _ => (),
+        }
+        s
+    }
+}
+
+/// A bank and a gate as the calls leave them, and how many updates they have accepted.
+#[derive(Clone)]
+struct Set {
+    u: Vec<u16>,
+    f: Vec<f64>,
+    gate: Vec<u16>,
+    gate_f: Vec<f64>,
+    rise: Vec<u8>,
+    banks: usize,
+    gates: usize,
+}
+
+impl Set {
+    fn new(n: usize, levels: [i32; 3], lengths: &[u16]) -> Set {
+        let (mut u, mut f) = FloorBank::new(n).to_stores();
+        let (mut gate, mut gate_f) = Gate::made(n, levels, lengths).to_stores();
+        assert_eq!(lib::bank_new(&mut u, &mut f, n), 0);
+        assert_eq!(lib::gate_new(&mut gate, &mut gate_f, n, levels, lengths), 0);
+        Set { u, f, gate, gate_f, rise: vec![0; n], banks: 0, gates: 0 }
+    }
+
+    fn call(&mut self, s: &Step) -> u16 {
+        let (mut rise, mut drop) = (vec![9; s.marks], vec![9; s.marks]);
+        let (bank, gate, marks) = ((&self.u[..], &self.f[..]), (&mut self.gate[..], &mut self.gate_f[..]), (&mut rise[..], &mut drop[..]));
+        let answer = match s.kind {
+            Kind::Bank => lib::bank_update(&mut self.u, &mut self.f, &s.db, &s.power, s.hold),
+            Kind::Gate => lib::gate_update(bank, gate, (&s.db, &s.power), marks),
+            Kind::Hold => lib::gate_hold(bank, (gate.0, gate.1), marks),
+        };
+        if answer == 0 {
+            self.banks += (s.kind == Kind::Bank) as usize;
+            self.gates += (s.kind == Kind::Gate) as usize;
+            if s.kind != Kind::Bank {
+                self.rise = rise;
+            }
+        }
+        answer
+    }
+
+    /// A history of so many accepted updates, refused calls and holds among them: leading silence, then anything.
+    fn hear(&mut self, rng: &mut Rng, feeds: &[Feed], banks: usize, gates: usize) {
+        let mut feed = feeds[0];
+        for hop in 0.. {
+            if hop > (banks + gates) / 4 && hop % 40 == 0 {
+                feed = rng.pick(feeds);
+            }
+            let kind = match (self.banks < banks, self.gates < gates) {
+                (false, false) => return,
+                (true, true) => rng.pick(&[Kind::Bank, Kind::Gate, Kind::Hold]),
+                (true, false) => rng.pick(&[Kind::Bank, Kind::Bank, Kind::Hold]),
+                (false, true) => rng.pick(&[Kind::Gate, Kind::Gate, Kind::Hold]),
+            };
+            self.call(&Step::any(rng, self.rise.len(), kind, feed, hop));
+        }
+    }
+
+    fn floors(&self) -> Vec<[f64; 3]> {
+        (0..self.rise.len())
+            .map(|k| {
+                let mut three = [0.0; 3];
+                assert_eq!(lib::floors(&self.u, &self.f, k, &mut three), 0);
+                three
+            })
+            .collect()
+    }
+}
+
+fn same_floors(a: &Set, b: &Set) -> bool {
+    a.floors().iter().flatten().zip(b.floors().iter().flatten()).all(|(x, y)| same(*x, *y))
+}
+
+/// Both sets under the further list, and after how many of its accepted updates floors and rises last differed.
+struct Pair {
+    one: Set,
+    other: Set,
+    before: [usize; 2],
+    floors_differed: usize,
+    rises_differed: usize,
+}
+
+impl Pair {
+    fn new(one: Set, other: Set) -> Pair {
+        let before = [one.banks, one.gates];
+        Pair { one, other, before, floors_differed: 0, rises_differed: 0 }
+    }
+
+    fn banks(&self) -> usize {
+        self.one.banks - self.before[0]
+    }
+
+    fn gates(&self) -> usize {
+        self.one.gates - self.before[1]
+    }
+
+    fn call(&mut self, t: &mut Tally, what: Arguments, s: &Step) -> u16 {
+        let was_slow = s.kind == Kind::Bank && self.one.u[1] == 0;
+        let answer = self.one.call(s);
+        t.answer(what, self.other.call(s), answer);
+        if answer == 0 && was_slow && self.banks() < 3750 && !same_floors(&self.one, &self.other) {
+            self.floors_differed = self.banks();
+        }
+        if answer == 0 && s.kind != Kind::Bank && self.one.rise != self.other.rise {
+            self.rises_differed = self.gates();
+        }
+        answer
+    }
+
+    /// What the demand says of the end of the further list: all floors, and the rises of the call that comes next.
+    fn compare(&self, t: &mut Tally, what: Arguments, next: &Step, early: i32) {
+        t.check(same_floors(&self.one, &self.other), format_args!("{what}: the floors of two histories differ"));
+        if early != ABSENT {
+            return;
+        }
+        let (mut one, mut other) = (self.one.clone(), self.other.clone());
+        t.answer(what, other.call(next), one.call(next));
+        t.check(one.rise == other.rise || next.kind == Kind::Bank, format_args!("{what}: the rises of two histories differ"));
+    }
+}
+
+/// n, window lengths, early; then for two histories how many accepted bank updates and gate updates they have.
+type Setting = (usize, &'static [u16], i32, [usize; 2], [usize; 2]);
+
+pub const SETTINGS: [Setting; 8] = [
+    (1, &[375], ABSENT, [0, 0], [4500, 750]),
+    (1, &[1, 375, 2, 3, 125], ABSENT, [3, 5], [1503, 2255]),
+    (2, &[1, 3, 5, 15, 25, 75, 125, 375], ABSENT, [7, 11], [3907, 1511]),
+    (2, &[375, 75], ABSENT, [1509, 749], [4509, 1499]),
+    (33, &[15, 75, 375], ABSENT, [14, 700], [1214, 1450]),
+    (33, &[1, 5, 375], 40, [2, 2], [1502, 1502]),
+    (64, &[375, 15, 375], ABSENT, [0, 1], [3900, 751]),
+    (64, &[1, 25], ABSENT, [31, 49], [1531, 949]),
+];
+
+const ANY: [Feed; 5] = [Feed::Silence, Feed::Any, Feed::Numbers, Feed::Noise, Feed::Edges];
+
+/// Two histories, and a further list of any calls; its first accepted slow hop is loud.
+pub fn any_histories(t: &mut Tally, setting: &Setting, rng: &mut Rng) {
+    let &(n, lengths, early, a, b) = setting;
+    let levels = [rng.pick(&[0, 16, 40]), 16, early];
+    let mut one = Set::new(n, levels, lengths);
+    let mut other = one.clone();
+    one.hear(rng, &[Feed::Noise, Feed::Any, Feed::Noise], a[0], a[1]);
+    other.hear(rng, &ANY, b[0], b[1]);
+    let mut pair = Pair::new(one, other);
+    let what = format_args!("history, n {n}, {levels:?}, {lengths:?}, {a:?} and {b:?}");
+    let (mut feed, mut is_loud, mut compared) = (Feed::Noise, false, 0);
+    for hop in 0.. {
+        if is_loud && hop % 50 == 0 {
+            feed = rng.pick(&[Feed::Noise, Feed::Noise, Feed::Partly, ANY[hop / 50 % 5]]);
+        }
+        let kind = if pair.gates() < 1500 && hop % 2 == 0 { Kind::Gate } else { rng.pick(&[Kind::Bank, Kind::Bank, Kind::Bank, Kind::Gate, Kind::Hold]) };
+        let step = Step::any(rng, n, kind, feed, hop);
+        if pair.banks() >= 3750 && pair.gates() >= 1500 {
+            pair.compare(t, what, &step, early);
+            compared += 1;
+            if compared == 40 || t.differences > 1000 {
+                break;
+            }
+        }
+        let is_slow = kind == Kind::Bank && pair.one.u[1] == 0;
+        is_loud |= pair.call(t, what, &step) == 0 && is_slow;
+    }
+    t.channel_hops += 2 * (n * (pair.banks() + pair.gates())) as u64;
+    t.parted[0] += (pair.floors_differed > 0) as u64;
+    t.parted[1] += (pair.rises_differed > 0) as u64;
+}
+
+/// Two channels, one length of 375 and a further list that has no call too many: floors differ until its last bank update, and
+/// rises until its 1,499th gate update, when the windows are summed afresh.
+pub fn no_call_too_many(t: &mut Tally) {
+    let step = |kind, db: f64, power: f32| Step { kind, db: vec![db; 2], power: vec![power; 2], hold: None, marks: 2 };
+    let mut one = Set::new(2, [0, 0, ABSENT], &[375]);
+    let mut other = one.clone();
+    let what = format_args!("history, no call too many");
+    t.answer(what, one.call(&step(Kind::Bank, -120.0, 1e-12)), 0);
+    t.answer(what, one.call(&step(Kind::Gate, -120.0, f32::INFINITY)), 0);
+    (0..3751).for_each(|_| t.answer(what, other.call(&step(Kind::Bank, -60.0, 1e-6)), 0));
+    (0..751).for_each(|_| t.answer(what, other.call(&step(Kind::Gate, -60.0, 1e-6)), 0));
+    let mut pair = Pair::new(one, other);
+    for hop in 1..=3750 {
+        // of the 249 slow hops before the last, 62 are quiet: the entry from before decides the quartile
+        let is_quiet = hop % 15 == 0 && (2..64).contains(&(hop / 15));
+        pair.call(t, what, &step(Kind::Bank, if is_quiet { -120.0 } else { -60.0 }, 1e-6));
+        let due = hop < 3750;
+        t.check(same_floors(&pair.one, &pair.other) != due || hop < 945, format_args!("{what}: floors after {hop} bank updates"));
+    }
+    for _ in 0..1500 {
+        pair.call(t, what, &step(Kind::Gate, -60.0, 1e-3));
+    }
+    t.check(pair.rises_differed == 1498, format_args!("{what}: rises last differed after {} gate updates", pair.rises_differed));
+    pair.compare(t, what, &step(Kind::Hold, 0.0, 0.0), ABSENT);
+    t.check(pair.one.rise == [1, 1], format_args!("{what}: both channels rise"));
+}
