@@ -27,7 +27,7 @@ fn make(
     if no != 0 {
         return no;
     }
-    crate::x_gate::gate_new(
+    gate_store::making::gate_new(
         gate,
         gate_f,
         wide(n),
@@ -38,6 +38,7 @@ fn make(
     )
 }
 
+// Makes the stores, and lends each list of the recording's own size.
 pub fn watch_with(
     fd: i32,
     name: &[u8],
@@ -49,19 +50,57 @@ pub fn watch_with(
     gate: &mut [u16],
     gate_f: &mut [f64],
 ) {
+    let mut hop = [0u8; MOST_HOP_BYTES];
+    let mut alive = [0u8; MOST];
+    let mut events = [0u8; MOST];
+    let mut alive_hops = [0u64; MOST];
+    let mut rises = [0u64; MOST];
     let no = make(s, lengths, n, bank, bank_f, gate, gate_f);
     if no != 0 {
         report::print_refusal(name, 0, 0, no);
         return;
     }
     report::print_head(name, s, lengths, n);
-    let mut alive = [0u8; MOST];
-    let mut alive_hops = [0u64; MOST];
-    let mut rises = [0u64; MOST];
     let k = wide(n);
+    let size = recording::hop_bytes(n);
     if k > MOST {
         return;
     }
+    if size > MOST_HOP_BYTES {
+        return;
+    }
+    watch_all(
+        fd,
+        name,
+        s,
+        n,
+        bank,
+        bank_f,
+        gate,
+        gate_f,
+        &mut hop[..size],
+        &mut alive[..k],
+        &mut events[..k],
+        &mut alive_hops[..k],
+        &mut rises[..k],
+    );
+}
+
+fn watch_all(
+    fd: i32,
+    name: &[u8],
+    s: Settings,
+    n: u16,
+    bank: &mut [u16],
+    bank_f: &mut [f64],
+    gate: &mut [u16],
+    gate_f: &mut [f64],
+    hop: &mut [u8],
+    alive: &mut [u8],
+    events: &mut [u8],
+    alive_hops: &mut [u64],
+    rises: &mut [u64],
+) {
     let hops = watch_hops(
         fd,
         name,
@@ -71,19 +110,13 @@ pub fn watch_with(
         bank_f,
         gate,
         gate_f,
-        &mut alive[..k],
-        &mut alive_hops[..k],
-        &mut rises[..k],
+        hop,
+        alive,
+        events,
+        alive_hops,
+        rises,
     );
-    report::print_tail(
-        s,
-        hops,
-        bank,
-        bank_f,
-        &alive[..k],
-        &alive_hops[..k],
-        &rises[..k],
-    );
+    report::print_tail(s, hops, bank, bank_f, alive, alive_hops, rises);
 }
 
 // No recording has as many hops as there are turns. Answers how many hops were taken.
@@ -96,12 +129,12 @@ fn watch_hops(
     bank_f: &mut [f64],
     gate: &mut [u16],
     gate_f: &mut [f64],
+    hop: &mut [u8],
     alive: &mut [u8],
+    events: &mut [u8],
     alive_hops: &mut [u64],
     rises: &mut [u64],
 ) -> u64 {
-    let mut hop = [0u8; MOST_HOP_BYTES];
-    let mut events = [0u8; MOST];
     let mut place = recording::first_place();
     let mut turns = u64::MAX;
     while turns > 0 && place.is_on {
@@ -111,13 +144,13 @@ fn watch_hops(
             s,
             n,
             place,
-            &mut hop,
             bank,
             bank_f,
             gate,
             gate_f,
+            hop,
             alive,
-            &mut events,
+            events,
             alive_hops,
             rises,
         );
@@ -128,8 +161,9 @@ fn watch_hops(
 
 // Reads a hop as far as it goes.
 fn read_hop(fd: i32, hop: &mut [u8]) -> Step {
+    let size = hop.len();
     let got = io::read_full(fd, hop);
-    recording::step_of(&hop[..got], hop.len())
+    recording::step_of(&hop[..got], size)
 }
 
 fn turn(
@@ -138,35 +172,31 @@ fn turn(
     s: Settings,
     n: u16,
     place: Place,
-    hop: &mut [u8; MOST_HOP_BYTES],
     bank: &mut [u16],
     bank_f: &mut [f64],
     gate: &mut [u16],
     gate_f: &mut [f64],
+    hop: &mut [u8],
     alive: &mut [u8],
-    events: &mut [u8; MOST],
+    events: &mut [u8],
     alive_hops: &mut [u64],
     rises: &mut [u64],
 ) -> Place {
-    let size = recording::hop_bytes(n);
-    if size > MOST_HOP_BYTES {
-        return recording::ended(place);
-    }
-    match read_hop(fd, &mut hop[..size]) {
+    match read_hop(fd, hop) {
         Step::End => report::print_end(fd, name, place, 0),
         Step::Cut(got) => report::print_end(fd, name, place, got),
         Step::BadFlag(flag) => report::print_bad_flag(name, place, flag),
-        Step::Hop(is_static) => hop_turn(
+        Step::Hop(is_static) => take_hop(
             name,
             s,
             n,
             place,
             is_static,
-            &hop[..size],
             bank,
             bank_f,
             gate,
             gate_f,
+            hop,
             alive,
             events,
             alive_hops,
@@ -175,49 +205,74 @@ fn turn(
     }
 }
 
-fn hop_turn(
+// Lends the lists of one hop.
+fn take_hop(
     name: &[u8],
     s: Settings,
     n: u16,
     place: Place,
     is_static: bool,
-    hop: &[u8],
     bank: &mut [u16],
     bank_f: &mut [f64],
     gate: &mut [u16],
     gate_f: &mut [f64],
+    hop: &[u8],
     alive: &mut [u8],
-    events: &mut [u8; MOST],
+    events: &mut [u8],
     alive_hops: &mut [u64],
     rises: &mut [u64],
 ) -> Place {
     let mut rise = [0u8; MOST];
     let mut drop = [0u8; MOST];
-    let mut changes = [0u8; MOST];
     let k = wide(n);
     if k > MOST {
         return recording::ended(place);
     }
-    let no = judge(
+    judge_hop(
+        name,
+        s,
         n,
+        place,
         is_static,
-        hop,
         bank,
         bank_f,
         gate,
         gate_f,
+        hop,
+        alive,
+        events,
+        alive_hops,
+        rises,
         &mut rise[..k],
         &mut drop[..k],
-    );
+    )
+}
+
+fn judge_hop(
+    name: &[u8],
+    s: Settings,
+    n: u16,
+    place: Place,
+    is_static: bool,
+    bank: &mut [u16],
+    bank_f: &mut [f64],
+    gate: &mut [u16],
+    gate_f: &mut [f64],
+    hop: &[u8],
+    alive: &mut [u8],
+    events: &mut [u8],
+    alive_hops: &mut [u64],
+    rises: &mut [u64],
+    rise: &mut [u8],
+    drop: &mut [u8],
+) -> Place {
+    let no = judge(n, is_static, hop, bank, bank_f, gate, gate_f, rise, drop);
     if no != 0 {
         report::print_refusal(name, place.hop, place.byte, no);
         return recording::ended(place);
     }
-    states::find_changes(&mut changes, alive, &rise[..k], &drop[..k]);
-    states::step_states(alive, &rise[..k], &drop[..k]);
-    states::count_set(alive_hops, alive);
-    states::count_set(rises, &changes);
-    states::add_events(events, &changes);
+    states::count_rises(rises, alive, rise, drop);
+    states::add_events(events, alive, rise, drop);
     report::print_hop(
         place.hop,
         s,
@@ -227,9 +282,12 @@ fn hop_turn(
         gate,
         gate_f,
         alive,
-        &changes,
         events,
+        rise,
+        drop,
     );
+    states::step_states(alive, rise, drop);
+    states::count_set(alive_hops, alive);
     if recording::is_slow(place.hop) {
         states::clear(events);
     }
@@ -254,32 +312,36 @@ fn judge(
     if k > MOST {
         return 1;
     }
-    recording::fill_db(hop, &mut db[..k]);
-    recording::fill_power(hop, n, &mut power[..k]);
     judge_values(
+        n,
         is_static,
-        &db[..k],
-        &power[..k],
+        hop,
         bank,
         bank_f,
         gate,
         gate_f,
         rise,
         drop,
+        &mut db[..k],
+        &mut power[..k],
     )
 }
 
 fn judge_values(
+    n: u16,
     is_static: bool,
-    db: &[f64],
-    power: &[f32],
+    hop: &[u8],
     bank: &mut [u16],
     bank_f: &mut [f64],
     gate: &mut [u16],
     gate_f: &mut [f64],
     rise: &mut [u8],
     drop: &mut [u8],
+    db: &mut [f64],
+    power: &mut [f32],
 ) -> u16 {
+    recording::fill_db(hop, db);
+    recording::fill_power(hop, n, power);
     let no = bank::bank_update_holding_reference(bank, bank_f, db, power, is_static);
     if no != 0 {
         return no;

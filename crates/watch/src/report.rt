@@ -1,4 +1,5 @@
 // What is printed: for people, or a line per slow hop and channel.
+ghost use Prim.Native.Nat.{_<_};
 use libc::STDERR_FILENO;
 use libc::STDOUT_FILENO;
 use model::Floors;
@@ -19,19 +20,24 @@ use watch_core::text::put_thousandths;
 use watch_core::words::Level;
 use watch_core::words::Settings;
 
-fn say(line: &[u8; LINE], end: usize) {
-    if end <= LINE {
-        io::write_all(STDOUT_FILENO, &line[..end]);
+fn write_part(fd: i32, line: &[u8], end: usize) {
+    if end <= line.len() {
+        io::write_all(fd, &line[..end]);
     }
+}
+
+// The line as far as it is written.
+fn say(line: &[u8; LINE], end: usize) {
+    write_part(STDOUT_FILENO, line, end);
 }
 
 fn cry(line: &[u8; LINE], end: usize) {
-    if end <= LINE {
-        io::write_all(STDERR_FILENO, &line[..end]);
-    }
+    write_part(STDERR_FILENO, line, end);
 }
 
-fn wide(n: u16) -> u64 {
+fn wide(n: u16) -> u64
+    ensures { λ r. ⌜ r < 65536 ⌝ }
+{
     n as u64
 }
 
@@ -238,17 +244,30 @@ pub fn print_hop(
     gate: &[u16],
     gate_f: &[f64],
     alive: &[u8],
-    changes: &[u8],
     events: &[u8],
+    rise: &[u8],
+    drop: &[u8],
 ) {
     print_progress(hop);
-    if s.is_csv {
-        if recording::is_slow(hop) {
-            print_rows(hop, s, bytes, bank, bank_f, gate, gate_f, alive, events);
-        }
+    if !s.is_csv {
+        print_changes(hop, s, bank, bank_f, gate, gate_f, alive, rise, drop);
         return;
     }
-    print_changes(hop, s, bank, bank_f, gate, gate_f, alive, changes);
+    if recording::is_slow(hop) {
+        print_rows(
+            hop,
+            s,
+            bytes,
+            bank,
+            bank_f,
+            gate,
+            gate_f,
+            alive,
+            events,
+            rise,
+            drop,
+        );
+    }
 }
 
 fn print_changes(
@@ -259,20 +278,14 @@ fn print_changes(
     gate: &[u16],
     gate_f: &[f64],
     alive: &[u8],
-    changes: &[u8],
+    rise: &[u8],
+    drop: &[u8],
 ) {
     for k in 0..alive.len() {
-        if states::mark_at(changes, k) != 0 {
-            print_change(
-                hop,
-                s,
-                bank,
-                bank_f,
-                gate,
-                gate_f,
-                k,
-                states::is_set(alive, k),
-            );
+        match states::change_at(alive, rise, drop, k) {
+            0 => {}
+            1 => print_change(hop, s, bank, bank_f, gate, gate_f, k, true),
+            _ => print_change(hop, s, bank, bank_f, gate, gate_f, k, false),
         }
     }
 }
@@ -344,6 +357,8 @@ fn print_rows(
     gate_f: &[f64],
     alive: &[u8],
     events: &[u8],
+    rise: &[u8],
+    drop: &[u8],
 ) {
     for k in 0..alive.len() {
         print_row(
@@ -355,7 +370,7 @@ fn print_rows(
             gate,
             gate_f,
             k,
-            states::is_set(alive, k),
+            states::next_state(alive, rise, drop, k),
             states::mark_at(events, k),
         );
     }

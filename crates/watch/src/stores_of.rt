@@ -1,8 +1,6 @@
 // The stores that a recording needs, on the stack, and their parts.
 use crate::hops;
 use crate::report;
-use watch_core::recording::MOST;
-use watch_core::recording::MOST_HOP_BYTES;
 use watch_core::words::Settings;
 
 // A bank of 512 channels.
@@ -34,12 +32,12 @@ fn wide(n: u16) -> usize {
     n as usize
 }
 
-fn watch_channels(fd: i32, name: &[u8], s: Settings, lengths: &[u16; 8], n: u16) {
+fn watch_channels(fd: i32, name: &[u8], s: Settings, lengths: &[u16], n: u16) {
     let count = s.lengths;
-    if count > 8 {
+    if count > lengths.len() {
         return;
     }
-    let gate_f_len = crate::x_gate::gate_f_len(wide(n), &lengths[..count]);
+    let gate_f_len = gate_store::gate_f_len(wide(n), &lengths[..count]);
     if gate_f_len > MOST_GATE_F {
         report::print_too_large(name, n, gate_f_len, MOST_GATE_F);
         return;

@@ -26,11 +26,16 @@ changeOf false will = one will
 changeOf true true = 0
 changeOf true false = 2
 
--- what the marks of a hop change
-unfoldable pub changesOf : ℕ → List ℕ → List ℕ → List ℕ → List ℕ
-changesOf n alive rise drop =
-    tab n (λ k. changeOf (isSet alive k) (stateAfter (isSet alive k) (isSet rise k) (isSet drop k)))
+-- what the marks of a hop change of channel k
+abbrev pub changeAt : List ℕ → List ℕ → List ℕ → ℕ → ℕ
+changeAt alive rise drop k =
+    changeOf (isSet alive k) (stateAfter (isSet alive k) (isSet rise k) (isSet drop k))
 
 -- one more where a mark is set
 unfoldable pub countsAfter : List ℕ → List ℕ → List ℕ
 countsAfter counts marks = tab (length counts) (λ k. (getD counts k 0 + one (isSet marks k)) % 2 ^ 64)
+
+-- one more where a channel comes alive
+unfoldable pub risesAfter : List ℕ → List ℕ → List ℕ → List ℕ → List ℕ
+risesAfter counts alive rise drop =
+    tab (length counts) (λ k. (getD counts k 0 + one (eqb (changeAt alive rise drop k) 1)) % 2 ^ 64)

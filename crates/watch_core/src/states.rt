@@ -2,7 +2,7 @@
 ghost use mathlib.Core.Path.{_≡_};
 ghost use lib.ListN.{length, getD};
 ghost use Rattle.laws.specs.Lists.{one};
-ghost use Rattle.watch_core.specs.States.{stateAfter, statesAfter, countsAfter, changeOf, changesOf, isSet};
+ghost use Rattle.watch_core.specs.States.{stateAfter, statesAfter, countsAfter, changeOf, changeAt, risesAfter, isSet};
 use std::num::wrapping_add_u64;
 
 // An idle channel with a rise mark becomes alive; an alive one with a drop mark and no rise mark becomes idle.
@@ -49,16 +49,18 @@ fn change(is_alive: bool, will_be: bool) -> u8
     bit(will_be)
 }
 
-pub fn find_changes(changes: &mut [u8], alive: &[u8], rise: &[u8], drop: &[u8])
-    ensures { λ _. ⌜ now (changes .exit) ≡ changesOf (length (now (changes .entry))) (now (alive .entry)) (now (rise .entry)) (now (drop .entry)) ⌝ }
+// The state of channel k after the marks of a hop.
+pub fn next_state(alive: &[u8], rise: &[u8], drop: &[u8], k: usize) -> bool
+    ensures { λ r. ⌜ r ≡ stateAfter (isSet (now (alive .entry)) k) (isSet (now (rise .entry)) k) (isSet (now (drop .entry)) k) ⌝ }
 {
-    for k in 0..changes.len() {
-        let is_alive = is_set(alive, k);
-        changes[k] = change(
-            is_alive,
-            state_after(is_alive, is_set(rise, k), is_set(drop, k)),
-        );
-    }
+    state_after(is_set(alive, k), is_set(rise, k), is_set(drop, k))
+}
+
+// What the marks of a hop change of channel k.
+pub fn change_at(alive: &[u8], rise: &[u8], drop: &[u8], k: usize) -> u8
+    ensures { λ r. ⌜ r ≡ changeAt (now (alive .entry)) (now (rise .entry)) (now (drop .entry)) k ⌝ }
+{
+    change(is_set(alive, k), next_state(alive, rise, drop, k))
 }
 
 // One more where a mark is set: hops alive, or rises.
@@ -88,10 +90,19 @@ pub fn count_at(counts: &[u64], k: usize) -> u64
     counts[k]
 }
 
+// One more for each channel that comes alive.
+pub fn count_rises(counts: &mut [u64], alive: &[u8], rise: &[u8], drop: &[u8])
+    ensures { λ _. ⌜ now (counts .exit) ≡ risesAfter (now (counts .entry)) (now (alive .entry)) (now (rise .entry)) (now (drop .entry)) ⌝ }
+{
+    for k in 0..counts.len() {
+        counts[k] = wrapping_add_u64(counts[k], bit(change_at(alive, rise, drop, k) == 1) as u64);
+    }
+}
+
 // Changes are kept, bit by bit, until the next slow hop.
-pub fn add_events(events: &mut [u8], changes: &[u8]) {
+pub fn add_events(events: &mut [u8], alive: &[u8], rise: &[u8], drop: &[u8]) {
     for k in 0..events.len() {
-        events[k] = events[k] | mark_at(changes, k);
+        events[k] = events[k] | change_at(alive, rise, drop, k);
     }
 }
 
