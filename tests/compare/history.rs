@@ -1,6 +1,7 @@
 // Demand 3, run on the library: two sets with different histories hear the same further list.
 use crate::floor::{FloorBank, Gate, ABSENT};
 use crate::numbers::{any_f64, sample, same, Feed, Rng};
+use crate::rules::garbled;
 use crate::tally::Tally;
 use crate::wolfcloak as lib;
 use std::fmt::Arguments;
@@ -60,11 +61,11 @@ impl Set {
 
     fn call(&mut self, s: &Step) -> u16 {
         let (mut rise, mut drop) = (vec![9; s.marks], vec![9; s.marks]);
-        let (bank, gate, marks) = ((&self.u[..], &self.f[..]), (&mut self.gate[..], &mut self.gate_f[..]), (&mut rise[..], &mut drop[..]));
+        let (bank, marks) = ((&self.u[..], &self.f[..]), (&mut rise[..], &mut drop[..]));
         let answer = match s.kind {
             Kind::Bank => lib::bank_update(&mut self.u, &mut self.f, &s.db, &s.power, s.hold),
-            Kind::Gate => lib::gate_update(bank, gate, (&s.db, &s.power), marks),
-            Kind::Hold => lib::gate_hold(bank, (gate.0, gate.1), marks),
+            Kind::Gate => lib::gate_update(bank, (&mut self.gate, &mut self.gate_f), (&s.db, &s.power), marks),
+            Kind::Hold => lib::gate_hold(bank, (&self.gate, &self.gate_f), marks),
         };
         if answer == 0 {
             self.banks += (s.kind == Kind::Bank) as usize;
@@ -187,8 +188,12 @@ pub fn any_histories(t: &mut Tally, setting: &Setting, rng: &mut Rng) {
         if is_loud && hop % 50 == 0 {
             feed = rng.pick(&[Feed::Noise, Feed::Noise, Feed::Partly, ANY[hop / 50 % 5]]);
         }
-        let kind = if pair.gates() < 1500 && hop % 2 == 0 { Kind::Gate } else { rng.pick(&[Kind::Bank, Kind::Bank, Kind::Bank, Kind::Gate, Kind::Hold]) };
+        let any = rng.pick(&[Kind::Bank, Kind::Bank, Kind::Bank, Kind::Gate, Kind::Hold]);
+        let kind = if pair.gates() < 1500 && hop % 2 == 0 { Kind::Gate } else { any };
         let step = Step::any(rng, n, kind, feed, hop);
+        if !is_loud && kind == Kind::Bank && !garbled(&step.db) && !step.db.iter().all(|&x| x >= -140.0) {
+            continue; // it could be the first accepted slow hop
+        }
         if pair.banks() >= 3750 && pair.gates() >= 1500 {
             pair.compare(t, what, &step, early);
             compared += 1;

@@ -1,5 +1,5 @@
 // The kept list: calls with floor.rs's answers, for the program `replay` (README.md has the form).
-use crate::floor::FloorBank;
+use crate::floor::{FloorBank, Gate, ABSENT};
 use crate::numbers::{any_f32, any_f64, edge, finite_f32, Rng};
 use crate::rules::garbled;
 
@@ -8,6 +8,9 @@ struct List {
     db: Vec<f64>,
     power: Vec<f32>,
     rng: Rng,
+    /// the last hop, and the marks of the last gate call
+    heard: (Vec<f64>, Vec<f32>),
+    marks: (Vec<bool>, Vec<bool>),
 }
 
 impl List {
@@ -20,16 +23,17 @@ impl List {
             40..=79 => any_f64(rng),
             _ => -100.0 + 30.0 * rng.unit(),
         };
+        let db: Vec<f64> = (0..256).map(|i| db(i, &mut rng)).collect();
         let power = |i, rng: &mut Rng| match i {
             0 => 0.0,
-            1..=199 => finite_f32(rng),
+            1..=79 => finite_f32(rng),
+            80..=199 => 10f64.powf(db[i] / 10.0) as f32,
             _ => any_f32(rng),
         };
-        let db: Vec<f64> = (0..256).map(|i| db(i, &mut rng)).collect();
         let power: Vec<f32> = (0..256).map(|i| power(i, &mut rng)).collect();
         let mut bytes: Vec<u8> = db.iter().flat_map(|x| x.to_le_bytes()).collect();
         bytes.extend(power.iter().flat_map(|x| x.to_le_bytes()));
-        List { bytes, db, power, rng }
+        List { bytes, db, power, rng, heard: Default::default(), marks: Default::default() }
     }
 
     /// 1, n, answer
@@ -51,6 +55,7 @@ impl List {
         self.bytes.extend(d);
         self.bytes.extend(p);
         self.bytes.push(if refused { 6 } else { 0 });
+        self.heard = (db, power);
     }
 
     /// 3, kind, k, answer, value: a reading of each kind; and 5, k, answer, effective, rise, raw
@@ -71,11 +76,10 @@ impl List {
         [effective, rise, raw].iter().for_each(|x| self.bytes.extend(x.to_le_bytes()));
     }
 
-    /// 4, a sum of the u16 store, the f64 store
-    fn stores(&mut self, oracle: &FloorBank) {
-        let (u, f) = oracle.to_stores();
+    /// 4 for a bank, 10 for a gate; a sum of the u16 store, the f64 store
+    fn stores(&mut self, number: u8, (u, f): (Vec<u16>, Vec<f64>)) {
         let sum = u.iter().fold(0u64, |s, &w| s.wrapping_mul(3).wrapping_add(w as u64));
-        self.bytes.push(4);
+        self.bytes.push(number);
         self.bytes.extend(sum.to_le_bytes());
         f.iter().for_each(|x| self.bytes.extend(x.to_le_bytes()));
     }
@@ -96,14 +100,90 @@ impl List {
             };
             self.hop(&mut oracle, is_slow, rows);
             if is_slow {
-                self.stores(&oracle);
+                self.stores(4, oracle.to_stores());
             }
             if self.rng.one_in(40) {
                 let k = self.rng.below(n as usize + 1) as u8;
                 self.readings(&oracle, k);
             }
         }
-        self.stores(&oracle);
+        self.stores(4, oracle.to_stores());
+    }
+
+    /// 6, n, f64 length, on, off, early, how many lengths, lengths, answer; a level is written with 800 added
+    fn make_gate(&mut self, n: u8, f_len: usize, levels: [i32; 3], lengths: &[u16], answer: u8) {
+        self.bytes.extend([6, n]);
+        let stored = levels.map(|x| if x == ABSENT { 65535 } else { (x + 800) as u16 });
+        [f_len as u16].iter().chain(&stored).for_each(|x| self.bytes.extend(x.to_le_bytes()));
+        self.bytes.push(lengths.len() as u8);
+        lengths.iter().for_each(|m| self.bytes.extend(m.to_le_bytes()));
+        self.bytes.push(answer);
+    }
+
+    /// 7 for an update with the last hop, 8 for a hold; answer, n rise bytes, n drop bytes
+    fn gate(&mut self, number: u8, answer: u8) {
+        self.bytes.extend([number, answer]);
+        let (rise, drop) = &self.marks;
+        self.bytes.extend(rise.iter().chain(drop).map(|&m| m as u8));
+    }
+
+    /// 9, kind, k, answer, value: the smoothed dB, and the early rise
+    fn gate_readings(&mut self, gate: &Gate, bank: &FloorBank, k: u8) {
+        let c = k as usize;
+        let refused = c >= bank.n_channels();
+        let values = if refused { [0.0, 0.0] } else { [gate.smoothed_db(c), gate.ema_rise(c, bank) as u8 as f64] };
+        for (kind, x) in values.into_iter().enumerate() {
+            self.bytes.extend([9, kind as u8, k, if refused { 7 } else { 0 }]);
+            self.bytes.extend(x.to_le_bytes());
+        }
+    }
+
+    /// A bank and a gate from fresh, as a receiver runs them: noise with odd values among it, and a hold now and then.
+    fn gate_run(&mut self, n: u8, levels: [i32; 3], lengths: &[u16], hops: usize) {
+        let (mut bank, mut gate) = (FloorBank::new(n as usize), Gate::made(n as usize, levels, lengths));
+        let f_len = gate.to_stores().1.len();
+        self.make(n);
+        self.marks = (vec![false; n as usize], vec![false; n as usize]);
+        self.make_gate(n, f_len, [levels[0], 801, levels[2]], lengths, 4);
+        self.make_gate(n, f_len, [levels[0], 801, levels[2]], &[], 3);
+        self.make_gate(n, f_len + 1, levels, lengths, 2);
+        self.make_gate(n, f_len, levels, lengths, 0);
+        self.gate(8, 0); // before the first update: no marks
+        for hop in 0..hops {
+            let is_slow = bank.to_stores().0[1] == 0;
+            let loud = if hop / 40 % 3 == 0 { 200 } else { 100 };
+            let rows = |rng: &mut Rng| match rng.below(12) {
+                0 if rng.one_in(20) => (rng.below(256) as u8, rng.below(256) as u8),
+                0 => (2 + rng.below(38) as u8, 0),
+                _ => {
+                    let row = 80 + rng.below(loud - 80) as u8;
+                    (row, row)
+                }
+            };
+            self.hop(&mut bank, is_slow, rows);
+            if self.rng.one_in(8) {
+                self.marks = gate.hold(&bank);
+                self.gate(8, 0);
+            } else {
+                let (db, power) = &self.heard;
+                self.marks = gate.update(db, power, &bank);
+                self.gate(7, 0);
+            }
+            if self.rng.one_in(40) {
+                let k = self.rng.below(n as usize + 1) as u8;
+                self.readings(&bank, k);
+                self.gate_readings(&gate, &bank, k);
+            }
+            if hop % (1 + f_len) == 0 {
+                self.stores(10, gate.to_stores());
+            }
+        }
+        self.stores(4, bank.to_stores());
+        self.stores(10, gate.to_stores());
+        let other = if n == 1 { 2 } else { n - 1 };
+        self.make_gate(other, 5 * other as usize, levels, &[1], 0);
+        self.gate(7, 8);
+        self.gate(8, 8);
     }
 }
 
@@ -113,8 +193,12 @@ pub fn list() -> Vec<u8> {
     list.run(1, 200, 4500);
     list.run(2, 0, 4500);
     list.run(3, 300, 1500);
-    list.run(33, 100, 600);
+    list.run(33, 100, 450);
     list.run(32, 0, 400);
+    list.gate_run(1, [40, 16, ABSENT], &[375], 1800);
+    list.gate_run(3, [24, 40, 96], &[1, 5, 375, 5], 1700);
+    list.gate_run(6, [48, 32, ABSENT], &[1, 2, 3, 4, 5, 6, 7, 8], 600);
+    list.gate_run(33, [32, 24, 72], &[3, 2, 3], 150);
     list.bytes.push(0);
     list.bytes
 }

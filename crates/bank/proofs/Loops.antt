@@ -17,12 +17,13 @@ use Rattle.model.specs.Ring.{binOf, pushIn, rawFloor, usableFloor, since, entri
 use Rattle.model.specs.Bank.{FloorBank, hop, powerAfter, smoothAfter, seedsAfter, sumsAfter, block, blocks, median, riseFloor, channel, channelAfter, chansAfter, freshChannel, rawFloors, usableFloors, blockFloors, riseFloors}
 use Rattle.model.specs.Stores.{chanU, chanOf, chanPart, base, bankU, bankF, bankOf, bankLen, bankFLen}
 use Rattle.ring.specs.Sound.{Sound}
-use Rattle.ring.proofs.Queue.{occ-le}
+use Rattle.laws.proofs.Counting.{occ-le}
 use Rattle.ring.proofs.Stored.{length-chanU}
 use Rattle.ring.proofs.Sound.{sound-push}
 use Rattle.ring.proofs.Floats.{bin-below}
 use Rattle.stores.specs.Good.{Good, Ready}
 use Rattle.stores.proofs.Encode.{Lengths, bank-forth-u, bank-forth-f, put-raw, put-usable, put-smooth, put-rise, put-block, put-sums, put-seeds, put-chans}
+use Rattle.stores.proofs.Goods.{lengths}
 use Rattle.bank.specs.Steps.{Holds, smoothStep, seedStep, pushStep, rawStep, usableStep, blockStep, riseStep}
 
 -- ---- what a loop knows of the stores of n channels
@@ -80,17 +81,6 @@ module _ (u : List ℕ) (f : List Float) (n : ℕ) (s : Fits u f n) (k : ℕ) (h
       )
 
 -- ---- what the loops leave is the step, encoded
-
-pub lengths : (b : FloorBank) → Good b → Lengths (b .n) (blocks (b .n)) (b .raw) (b .usable) (b .smooth) (b .rise) (b .blockFloor) (b .seedSum)
-lengths b g =
-    record {
-      raw-long = g .raw-long;
-      usable-long = g .usable-long;
-      smooth-long = g .smooth-long;
-      rise-long = g .rise-long;
-      blockFloor-long = g .blockFloor-long;
-      sums-long = g .seedSum-long;
-    }
 
 -- channel k's rise floor from the flat stores
 abbrev pub riseAtOf : List ℕ → List Float → ℕ → ℕ → Float

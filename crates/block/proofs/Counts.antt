@@ -9,10 +9,7 @@ use lib.ListN.{length, getD, take}
 use lib.Seq.{take-suc, take-all, length-take-le}
 use mir.Val.{boolByte}
 use Rattle.laws.specs.Lists.{one, count}
-
-one-le : (b : Bool) → one b ≤ 1
-one-le true = omega arith
-one-le false = omega arith
+use Rattle.laws.proofs.Counting.{one-le}
 
 -- a test's outcome as a number
 pub flag : (b : Bool) → boolByte b ≡ one b

@@ -12,7 +12,7 @@ pub fn power_linear(p: f32) -> f64
     std::num::f32_to_f64_with_nan(p) + 1e-20
 }
 
-fn smooth_step(s: f64, x: f64) -> f64
+pub fn smooth_step(s: f64, x: f64) -> f64
     ensures { λ r. ⌜ r ≡ smoothed s x ⌝ }
 {
     s + GATE_EMA_ALPHA * (x - s)

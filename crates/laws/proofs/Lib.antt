@@ -5,3 +5,4 @@ pub mod Joined
 pub mod Floats
 pub mod Defaults
 pub mod Runs
+pub mod Counting

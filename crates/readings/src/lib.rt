@@ -26,7 +26,7 @@ pub fn channel_floor_db(bank: &[u16], bank_f: &[f64], k: usize) -> model::Readin
     model::Reading::Value(raw)
 }
 
-fn effective_at(bank: &[u16], bank_f: &[f64], k: usize) -> f64
+pub fn effective_at(bank: &[u16], bank_f: &[f64], k: usize) -> f64
     requires { ⌜ Readable (now bank) (now «bank_f») k ⌝ }
     ensures { λ r. ⌜ r ≡ effectiveAt (bankOf (now (bank .entry)) (now («bank_f» .entry))) k ⌝ }
 {
@@ -56,7 +56,7 @@ pub fn effective_floor_db(bank: &[u16], bank_f: &[f64], k: usize) -> model::Read
     model::Reading::Value(effective_at(bank, bank_f, k))
 }
 
-fn rise_at(bank: &[u16], bank_f: &[f64], k: usize) -> f64
+pub fn rise_at(bank: &[u16], bank_f: &[f64], k: usize) -> f64
     requires { ⌜ Readable (now bank) (now «bank_f») k ⌝ }
     ensures { λ r. ⌜ r ≡ riseAt (bankOf (now (bank .entry)) (now («bank_f» .entry))) k ⌝ }
 {

@@ -1,5 +1,6 @@
 // What a store and an answer are compared by.
 use crate::list::after;
+use crate::list::byte_at;
 use crate::list::double_at;
 use model::Reading;
 use std::num::wrapping_add_u64;
@@ -37,6 +38,15 @@ pub fn differing(list: &[u8], at: usize, floats: &[f64]) -> u64 {
             count,
             one(!same(floats[i], double_at(list, after(at, i * 8)))),
         );
+    }
+    count
+}
+
+// How many bytes differ from those of the list.
+pub fn differing_bytes(list: &[u8], at: usize, bytes: &[u8]) -> u64 {
+    let mut count = 0;
+    for i in 0..bytes.len() {
+        count = wrapping_add_u64(count, one(bytes[i] != byte_at(list, after(at, i))));
     }
     count
 }

@@ -25,6 +25,10 @@ fn two_bytes(list: &[u8], at: usize) -> u64 {
     (wide(byte_at(list, after(at, 1))) << 8) | wide(byte_at(list, at))
 }
 
+pub fn word_at(list: &[u8], at: usize) -> u16 {
+    (two_bytes(list, at) % 0x1_0000) as u16
+}
+
 fn four_bytes(list: &[u8], at: usize) -> u64 {
     (two_bytes(list, after(at, 2)) << 16) | two_bytes(list, at)
 }

@@ -1,18 +1,21 @@
-// Replays a kept list of calls of the bank and compares what floor.rs answered to them; tests/compare/README.md says how the list is made.
+// Replays a kept list of calls of a bank and a gate and compares what floor.rs answered to them; tests/compare/README.md says how the list is made.
 mod compare;
+mod gates;
 mod hop;
 mod list;
 mod records;
 
+use records::GATE_LEN;
 use records::MOST;
 use records::MOST_F_LEN;
+use records::MOST_GATE_F_LEN;
 use records::MOST_LEN;
 use records::Replay;
 
 // The records start behind the tables.
 const RECORDS: usize = 3072;
 
-const MOST_BYTES: usize = 400000;
+const MOST_BYTES: usize = 500000;
 
 // A record takes two bytes or more, so there are no more turns than bytes.
 fn replay_list(list: &[u8]) -> Replay {
@@ -20,16 +23,32 @@ fn replay_list(list: &[u8]) -> Replay {
     let mut bank_f = [0.0f64; MOST_F_LEN];
     let mut db = [0.0f64; MOST];
     let mut power = [0.0f32; MOST];
+    let mut gate = [0u16; GATE_LEN];
+    let mut gate_f = [0.0f64; MOST_GATE_F_LEN];
+    let mut rise = [0u8; MOST];
+    let mut drop = [0u8; MOST];
     let mut r = Replay {
         at: RECORDS,
         n: 0,
+        floats: 0,
         is_on: true,
         records: 0,
         differences: 0,
     };
     let mut turns = list.len();
     while turns > 0 && r.is_on {
-        r = records::replay_turn(list, r, &mut bank, &mut bank_f, &mut db, &mut power);
+        r = records::replay_turn(
+            list,
+            r,
+            &mut bank,
+            &mut bank_f,
+            &mut db,
+            &mut power,
+            &mut gate,
+            &mut gate_f,
+            &mut rise,
+            &mut drop,
+        );
         turns -= 1;
     }
     r

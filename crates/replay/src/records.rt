@@ -4,6 +4,11 @@ use crate::compare::differing;
 use crate::compare::one;
 use crate::compare::reading_differs;
 use crate::compare::sum_of;
+use crate::gates::replay_gate_hold;
+use crate::gates::replay_gate_new;
+use crate::gates::replay_gate_reading;
+use crate::gates::replay_gate_stores;
+use crate::gates::replay_gate_update;
 use crate::hop::fill_db;
 use crate::hop::fill_power;
 use crate::list::after;
@@ -11,6 +16,7 @@ use crate::list::byte_at;
 use crate::list::double_at;
 use crate::list::eight_bytes;
 use crate::list::index;
+use crate::list::word_at;
 use model::FloorsReading;
 use model::Reading;
 use std::num::wrapping_add_u64;
@@ -22,7 +28,12 @@ pub const MOST_LEN: usize = 17594;
 
 pub const MOST_F_LEN: usize = 136;
 
-fn wide(x: u8) -> u16 {
+pub const GATE_LEN: usize = 30;
+
+// The largest gate has 3 channels and the lengths 1, 5 and 375; its store is lent one too long, too.
+pub const MOST_GATE_F_LEN: usize = 2308;
+
+pub fn wide(x: u8) -> u16 {
     x as u16
 }
 
@@ -39,39 +50,44 @@ fn store_f_len(n: u8) -> usize
     4 * n + 2 * ((n + 31) / 32)
 }
 
+// n is the bank's; floats is how long the gate's f64 store is.
 pub struct Replay {
     pub at: usize,
     pub n: u8,
+    pub floats: u16,
     pub is_on: bool,
     pub records: u64,
     pub differences: u64,
 }
 
 // The replay after a record of so many bytes.
-fn passed(r: Replay, bytes: usize, differences: u64) -> Replay {
+pub fn passed(r: Replay, bytes: usize, differences: u64) -> Replay {
     Replay {
         at: after(r.at, bytes),
         n: r.n,
+        floats: r.floats,
         is_on: true,
         records: wrapping_add_u64(r.records, 1),
         differences: wrapping_add_u64(r.differences, differences),
     }
 }
 
-fn ended(r: Replay) -> Replay {
+pub fn ended(r: Replay) -> Replay {
     Replay {
         at: r.at,
         n: r.n,
+        floats: r.floats,
         is_on: false,
         records: r.records,
         differences: r.differences,
     }
 }
 
-fn sized(r: Replay, n: u8) -> Replay {
+fn sized(r: Replay, n: u8, floats: u16) -> Replay {
     Replay {
         at: r.at,
         n: n,
+        floats: floats,
         is_on: r.is_on,
         records: r.records,
         differences: r.differences,
@@ -165,6 +181,10 @@ fn replay_record(
     bank_f: &mut [f64],
     db: &mut [f64],
     power: &mut [f32],
+    gate: &mut [u16],
+    gate_f: &mut [f64],
+    rise: &mut [u8],
+    drop: &mut [u8],
 ) -> Replay {
     match byte_at(list, r.at) {
         1 => replay_new(list, r, bank, bank_f),
@@ -172,6 +192,11 @@ fn replay_record(
         3 => replay_reading(list, r, bank, bank_f),
         4 => replay_stores(list, r, bank, bank_f),
         5 => replay_floors(list, r, bank, bank_f),
+        6 => replay_gate_new(list, r, gate, gate_f),
+        7 => replay_gate_update(list, r, bank, bank_f, gate, gate_f, db, power, rise, drop),
+        8 => replay_gate_hold(list, r, bank, bank_f, gate, gate_f, rise, drop),
+        9 => replay_gate_reading(list, r, bank, bank_f, gate, gate_f),
+        10 => replay_gate_stores(list, r, gate, gate_f),
         _ => ended(r),
     }
 }
@@ -185,7 +210,16 @@ fn channels(list: &[u8], r: Replay) -> u8 {
     }
 }
 
-// The next record, on the parts of the buffers that its bank takes. A list that asks for more has ended.
+// How long the f64 store of its gate is.
+fn gate_floats(list: &[u8], r: Replay) -> u16 {
+    if byte_at(list, r.at) == 6 {
+        word_at(list, after(r.at, 2))
+    } else {
+        r.floats
+    }
+}
+
+// The next record, on the parts of the buffers that its bank and its gate take. A list that asks for more has ended.
 fn replay_next(
     list: &[u8],
     r: Replay,
@@ -193,10 +227,16 @@ fn replay_next(
     bank_f: &mut [f64],
     db: &mut [f64],
     power: &mut [f32],
+    gate: &mut [u16],
+    gate_f: &mut [f64],
+    rise: &mut [u8],
+    drop: &mut [u8],
 ) -> Replay {
     let n = channels(list, r);
+    let floats = gate_floats(list, r);
     let len = store_len(n);
     let f_len = store_f_len(n);
+    let gate_f_len = floats as usize;
     let k = index(n);
     if len > bank.len() {
         return ended(r);
@@ -210,7 +250,16 @@ fn replay_next(
     if k > power.len() {
         return ended(r);
     }
-    let r = sized(r, n);
+    if gate_f_len > gate_f.len() {
+        return ended(r);
+    }
+    if k > rise.len() {
+        return ended(r);
+    }
+    if k > drop.len() {
+        return ended(r);
+    }
+    let r = sized(r, n, floats);
     replay_record(
         list,
         r,
@@ -218,6 +267,10 @@ fn replay_next(
         &mut bank_f[..f_len],
         &mut db[..k],
         &mut power[..k],
+        gate,
+        &mut gate_f[..gate_f_len],
+        &mut rise[..k],
+        &mut drop[..k],
     )
 }
 
@@ -229,6 +282,10 @@ pub fn replay_turn(
     bank_f: &mut [f64; MOST_F_LEN],
     db: &mut [f64; MOST],
     power: &mut [f32; MOST],
+    gate: &mut [u16; GATE_LEN],
+    gate_f: &mut [f64; MOST_GATE_F_LEN],
+    rise: &mut [u8; MOST],
+    drop: &mut [u8; MOST],
 ) -> Replay {
-    replay_next(list, r, bank, bank_f, db, power)
+    replay_next(list, r, bank, bank_f, db, power, gate, gate_f, rise, drop)
 }

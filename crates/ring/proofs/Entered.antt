@@ -14,15 +14,10 @@ use Rattle.model.specs.Ring.{ChannelFloor, uncounted, oldest, entries, pushAs, 
 use Rattle.model.specs.Stores.{chanU, chanOf}
 use Rattle.ring.specs.Push.{roomed, entered, Roomy}
 use Rattle.ring.specs.Sound.{Sound}
-use Rattle.ring.proofs.Queue.{occ-le}
+use Rattle.laws.proofs.Counting.{occ-le, set-append-add}
 use Rattle.ring.proofs.Stored.{chan-back, chan-forth, length-chanU}
 
 -- ---- what the code stores into the 533 entries, as a channel
-
-set-append-add : (xs ys : List ℕ) (i a n : ℕ) → n ≡ length xs + i → set (xs ++ ys) n a ≡ xs ++ set ys i a
-set-append-add [] ys i a n e = ap (λ (k : ℕ). set ys k a) (e ∙ zero-add i)
-set-append-add (x ∷ xs) ys i a zero e = absurd (omega arith)
-set-append-add (x ∷ xs) ys i a (suc n) e = ap (λ (r : List ℕ). x ∷ r) (set-append-add xs ys i a n (omega arith))
 
 module _ (r k t : List ℕ) (hr : length r ≡ 250) (hk : length k ≡ 280) where
   in-ring : (i v : ℕ) → i < 250 → set (r ++ (k ++ t)) i v ≡ set r i v ++ (k ++ t)

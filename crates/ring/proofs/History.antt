@@ -15,7 +15,8 @@ use borrow.Author.Tests.{eqb-true, eqb-false}
 use Rattle.laws.specs.Lists.{one, occ}
 use Rattle.model.specs.Ring.{ChannelFloor, counted, uncounted, oldest, entries, pushAs, push, pushIn}
 use Rattle.ring.specs.Sound.{Sound}
-use Rattle.ring.proofs.Queue.{occ-append, occ-le, newest, older, newest-all, newest-step, win, win-part, win-full, win-pushed, kept, length-win, occ-win}
+use Rattle.laws.proofs.Counting.{occ-append, occ-le}
+use Rattle.ring.proofs.Queue.{newest, older, newest-all, newest-step, win, win-part, win-full, win-pushed, kept, length-win, occ-win}
 
 -- the window, oldest first
 abbrev pub W : ChannelFloor → List ℕ

@@ -1,4 +1,4 @@
--- Lists as queues: how often a number occurs, the newest j entries and the older ones, and the window of a ring, oldest entry first.
+-- Lists as queues: the newest j entries and the older ones, and the window of a ring, oldest entry first.
 -- Assumes nothing.
 use mathlib.Core.Path.{_≡_, sym, ap, _∙_}
 use mathlib.Core.List.{List, [], _∷_, _++_, append-assoc, append-nil}
@@ -11,21 +11,8 @@ use native.Mathlib.Omega.{arith}
 use lib.ListN.{length, getD, set, take, drop, length-append, length-take, length-drop, length-set, take-append-drop, drop-of-length-le}
 use lib.Seq.{take-all, take-suc-set, drop-cons, drop-set-lt, drop-append-le, drop-drop, take-take}
 use lib.Dec.{eqb}
-use Rattle.laws.specs.Lists.{one, occ}
-
--- ---- how often x occurs in a list
-
-pub occ-append : (x : ℕ) (s t : List ℕ) → occ x (s ++ t) ≡ occ x s + occ x t
-occ-append x [] t = sym (zero-add (occ x t))
-occ-append x (y ∷ ys) t = omega (arith, occ-append x ys t)
-
-pub one-le : (b : Bool) → one b ≤ 1
-one-le true = omega arith
-one-le false = omega arith
-
-pub occ-le : (x : ℕ) (s : List ℕ) → occ x s ≤ length s
-occ-le x [] = omega arith
-occ-le x (y ∷ ys) = omega (arith, occ-le x ys, one-le (eqb x y))
+use Rattle.laws.specs.Lists.{occ}
+use Rattle.laws.proofs.Counting.{occ-append}
 
 -- ---- the newest j entries of a queue, and the others
 

@@ -11,6 +11,7 @@ use lib.ListN.{length, getD, take, set}
 use lib.Seq.{take-suc, take-take, getD-set-same, getD-set-other}
 use borrow.Author.Tests.{eqb-true, eqb-false, eq-eqb, ne-eqb, ltb-true, leb-true}
 use Rattle.laws.specs.Lists.{one, occ, part}
+use Rattle.laws.proofs.Counting.{one-le, occ-le}
 use Rattle.laws.specs.Tests.{allBelow}
 use Rattle.laws.proofs.Lists.{getD-part}
 use Rattle.laws.proofs.Tests.{by-test, all-at, and-l, and-r, and-true, and-false-l, and-false-r}
@@ -22,10 +23,6 @@ use Rattle.stores.specs.Fails.{fails, isBin, strayEntries, isTallied, wr
 fails-more : (n : ℕ) (p : ℕ → Bool) → fails (n + 1) p ≡ fails n p + one (not (p n))
 unfolding fails
 fails-more n p = rw (add-one n)
-
-one-le : (b : Bool) → one b ≤ 1
-one-le true = omega arith
-one-le false = omega arith
 
 pub fails-le : (n : ℕ) (p : ℕ → Bool) → fails n p ≤ n
 unfolding fails
@@ -75,10 +72,6 @@ occ-snoc b (y ∷ l) x = omega (arith, occ-snoc b l x)
 
 occ-step : (b : ℕ) (l : List ℕ) (i : ℕ) → i < length l → occ b (take (i + 1) l) ≡ occ b (take i l) + one (eqb b (getD l i 0))
 occ-step b l i h = rw (add-one i, take-suc l i 0) (occ-snoc b (take i l) (getD l i 0))
-
-pub occ-le : (b : ℕ) (l : List ℕ) → occ b l ≤ length l
-occ-le b [] = omega arith
-occ-le b (x ∷ l) = omega (arith, occ-le b l, one-le (eqb b x))
 
 -- one more entry counted: what a turn of the recount does
 pub tally-more : (n : ℕ) (l t : List ℕ) (i : ℕ) → length t ≡ n → i < length l → getD l i 0 < n

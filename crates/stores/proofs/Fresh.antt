@@ -15,7 +15,7 @@ use Rattle.model.specs.Numbers.{f0, histMin, freshPower}
 use Rattle.model.specs.Ring.{binOf}
 use Rattle.model.specs.Bank.{FloorBank, Hop, blocks, block, median, channel, freshChannel, freshBank, takesSeed, seedsAfter, sumsAfter, smoothAfter, channelAfter, chansAfter, rawFloors, usableFloors, blockFloors, riseFloors, fastStep, slowStep, stepAt, bankStep}
 use Rattle.ring.specs.Sound.{Sound}
-use Rattle.ring.proofs.Queue.{one-le}
+use Rattle.laws.proofs.Counting.{one-le}
 use Rattle.ring.proofs.Floats.{bin-below}
 use Rattle.ring.proofs.Sound.{sound-fresh, sound-push}
 use Rattle.stores.specs.Good.{Good}

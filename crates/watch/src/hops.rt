@@ -347,7 +347,7 @@ fn judge_values(
         return no;
     }
     if is_static {
-        return crate::x_gate::gate_hold(bank, bank_f, gate, gate_f, rise, drop);
+        return gate::gate_hold(bank, bank_f, gate, gate_f, rise, drop);
     }
-    crate::x_gate::gate_update(bank, bank_f, gate, gate_f, db, power, rise, drop)
+    gate::gate_update(bank, bank_f, gate, gate_f, db, power, rise, drop)
 }

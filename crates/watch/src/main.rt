@@ -3,7 +3,6 @@ mod help;
 mod hops;
 mod report;
 mod stores_of;
-mod x_gate;
 
 use libc::STDERR_FILENO;
 use libc::STDIN_FILENO;

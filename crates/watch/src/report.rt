@@ -317,7 +317,7 @@ fn print_change(
     let at = put_db(
         &mut line,
         at,
-        value(crate::x_gate::smoothed_db(gate, gate_f, k)),
+        value(gate::smoothed_db(gate, gate_f, k)),
         11,
     );
     let at = put_db(&mut line, at, f.effective, 11);
@@ -417,7 +417,7 @@ fn print_row(
     let at = put_comma_db(
         &mut line,
         at,
-        value(crate::x_gate::smoothed_db(gate, gate_f, k)),
+        value(gate::smoothed_db(gate, gate_f, k)),
     );
     let at = put_comma_db(&mut line, at, f.raw);
     let at = put_comma_db(&mut line, at, f.effective);

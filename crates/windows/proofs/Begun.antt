@@ -8,18 +8,13 @@ use native.Mathlib.Omega.{arith}
 use lib.ListN.{length, getD, set, take, drop, length-append, length-drop, take-append-drop, drop-of-length-le, length-take}
 use lib.Seq.{drop-drop, set-append-left, getD-append-add, getD-drop}
 use Rattle.laws.specs.Lists.{part, tab, joined}
+use Rattle.laws.proofs.Counting.{set-append-add}
 use Rattle.laws.proofs.Tabs.{length-tab, fill-next, tab-snoc, joined-snoc, length-joined}
 
 module _ {A : Type 0} where
   -- a place past a first list
-  pub set-append-add : (p l : List A) (i : ℕ) (v : A) → set (p ++ l) (length p + i) v ≡ p ++ set l i v
-  set-append-add [] l i v = ap (λ (j : ℕ). set l j v) (zero-add i)
-  set-append-add (x ∷ p) l i v =
-      ap (λ (j : ℕ). set (x ∷ (p ++ l)) j v) (let z : length (x ∷ p) + i ≡ suc (length p + i) = omega arith in z)
-      ∙ ap (λ (r : List A). x ∷ r) (set-append-add p l i v)
-
   pub set-skip : (p l : List A) (a i j : ℕ) (v : A) → length p ≡ a → j ≡ a + i → set (p ++ l) j v ≡ p ++ set l i v
-  set-skip p l a i j v e h = ap (λ (k : ℕ). set (p ++ l) k v) (let z : j ≡ length p + i = omega arith in z) ∙ set-append-add p l i v
+  set-skip p l a i j v e h = set-append-add p l i v j (omega arith)
 
   pub getD-skip : (p l : List A) (a i j : ℕ) (d : A) → length p ≡ a → j ≡ a + i → getD (p ++ l) j d ≡ getD l i d
   getD-skip p l a i j d e h = ap (λ (k : ℕ). getD (p ++ l) k d) (let z : j ≡ length p + i = omega arith in z) ∙ getD-append-add p l i d

@@ -4,7 +4,7 @@ use lib.ListN.{length-take}
 use borrow.Author.Needs.{needs}
 use Rattle.model.specs.Ring.{entries}
 use Rattle.model.specs.Stores.{chanOf}
-use Rattle.ring.proofs.Queue.{occ-le}
+use Rattle.laws.proofs.Counting.{occ-le}
 use Rattle.ring.proofs.since.Statement.{statement}
 use Rattle.ring.proofs.since.Tie as tie
 

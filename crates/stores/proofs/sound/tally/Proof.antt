@@ -5,7 +5,8 @@ use lib.ListN.{length, getD, take, getD-replicate, length-set}
 use lib.Seq.{length-take-le}
 use borrow.Author.Needs.{needs}
 use Rattle.laws.specs.Lists.{occ}
-use Rattle.stores.proofs.Checks.{entry-below, occ-le, tally-more}
+use Rattle.laws.proofs.Counting.{occ-le}
+use Rattle.stores.proofs.Checks.{entry-below, tally-more}
 use Rattle.stores.proofs.sound.tally.Statement.{statement}
 use Rattle.stores.proofs.sound.tally.Tie as tie
 
