@@ -38,7 +38,7 @@ fn make(
     )
 }
 
-// Makes the stores, and lends each list of the recording's own size.
+// Makes the stores, and watches the hops.
 pub fn watch_with(
     fd: i32,
     name: &[u8],
@@ -50,17 +50,31 @@ pub fn watch_with(
     gate: &mut [u16],
     gate_f: &mut [f64],
 ) {
-    let mut hop = [0u8; MOST_HOP_BYTES];
-    let mut alive = [0u8; MOST];
-    let mut events = [0u8; MOST];
-    let mut alive_hops = [0u64; MOST];
-    let mut rises = [0u64; MOST];
     let no = make(s, lengths, n, bank, bank_f, gate, gate_f);
     if no != 0 {
         report::print_refusal(name, 0, 0, no);
         return;
     }
     report::print_head(name, s, lengths, n);
+    watch_lists(fd, name, s, n, bank, bank_f, gate, gate_f);
+}
+
+// Lends each list at the recording's own size.
+fn watch_lists(
+    fd: i32,
+    name: &[u8],
+    s: Settings,
+    n: u16,
+    bank: &mut [u16],
+    bank_f: &mut [f64],
+    gate: &mut [u16],
+    gate_f: &mut [f64],
+) {
+    let mut hop = [0u8; MOST_HOP_BYTES];
+    let mut alive = [0u8; MOST];
+    let mut events = [0u8; MOST];
+    let mut alive_hops = [0u64; MOST];
+    let mut rises = [0u64; MOST];
     let k = wide(n);
     let size = recording::hop_bytes(n);
     if k > MOST {
@@ -271,9 +285,7 @@ fn judge_hop(
         report::print_refusal(name, place.hop, place.byte, no);
         return recording::ended(place);
     }
-    states::count_rises(rises, alive, rise, drop);
-    states::add_events(events, alive, rise, drop);
-    report::print_hop(
+    note_hop(
         place.hop,
         s,
         hop,
@@ -283,15 +295,65 @@ fn judge_hop(
         gate_f,
         alive,
         events,
+        alive_hops,
+        rises,
         rise,
         drop,
     );
+    recording::next_place(place, hop.len())
+}
+
+// What the marks of a hop change, told and then taken over.
+fn note_hop(
+    hop: u64,
+    s: Settings,
+    bytes: &[u8],
+    bank: &[u16],
+    bank_f: &[f64],
+    gate: &[u16],
+    gate_f: &[f64],
+    alive: &mut [u8],
+    events: &mut [u8],
+    alive_hops: &mut [u64],
+    rises: &mut [u64],
+    rise: &[u8],
+    drop: &[u8],
+) {
+    open_hop(alive, events, rises, rise, drop);
+    report::print_hop(
+        hop,
+        s,
+        bytes,
+        bank,
+        bank_f,
+        gate,
+        gate_f,
+        alive,
+        events,
+        rise,
+        drop,
+    );
+    close_hop(hop, alive, events, alive_hops, rise, drop);
+}
+
+fn open_hop(alive: &[u8], events: &mut [u8], rises: &mut [u64], rise: &[u8], drop: &[u8]) {
+    states::count_rises(rises, alive, rise, drop);
+    states::add_events(events, alive, rise, drop);
+}
+
+fn close_hop(
+    hop: u64,
+    alive: &mut [u8],
+    events: &mut [u8],
+    alive_hops: &mut [u64],
+    rise: &[u8],
+    drop: &[u8],
+) {
     states::step_states(alive, rise, drop);
     states::count_set(alive_hops, alive);
-    if recording::is_slow(place.hop) {
+    if recording::is_slow(hop) {
         states::clear(events);
     }
-    recording::next_place(place, hop.len())
 }
 
 // The bank and the gate take a hop: 0, or the number of the refusal.

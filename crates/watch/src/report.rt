@@ -314,12 +314,7 @@ fn print_change(
     let at = put_seconds(&mut line, at, hop, 10);
     let at = put_number(&mut line, at, k as u64, 9);
     let at = put_change(&mut line, at, is_alive);
-    let at = put_db(
-        &mut line,
-        at,
-        value(gate::smoothed_db(gate, gate_f, k)),
-        11,
-    );
+    let at = put_db(&mut line, at, value(gate::smoothed_db(gate, gate_f, k)), 11);
     let at = put_db(&mut line, at, f.effective, 11);
     let at = put_db(&mut line, at, f.rise, 12);
     let at = put_reference(&mut line, at, bank, bank_f, k, s.has_reference && is_alive);
@@ -347,6 +342,14 @@ fn put_reference(
     )
 }
 
+// The dB value of channel k, behind the hop's flag.
+fn db_of(bytes: &[u8], k: usize) -> f64 {
+    if k >= recording::MOST {
+        return 0.0 / 0.0;
+    }
+    low_first::double_at(bytes, 1 + 8 * k)
+}
+
 fn print_rows(
     hop: u64,
     s: Settings,
@@ -364,7 +367,7 @@ fn print_rows(
         print_row(
             hop,
             s,
-            low_first::double_at(bytes, 1 + 8 * k),
+            db_of(bytes, k),
             bank,
             bank_f,
             gate,
@@ -414,11 +417,7 @@ fn print_row(
     let at = put_text(&mut line, at, b",");
     let at = put_number(&mut line, at, k as u64, 0);
     let at = put_comma_db(&mut line, at, db);
-    let at = put_comma_db(
-        &mut line,
-        at,
-        value(gate::smoothed_db(gate, gate_f, k)),
-    );
+    let at = put_comma_db(&mut line, at, value(gate::smoothed_db(gate, gate_f, k)));
     let at = put_comma_db(&mut line, at, f.raw);
     let at = put_comma_db(&mut line, at, f.effective);
     let at = put_comma_db(&mut line, at, f.rise);

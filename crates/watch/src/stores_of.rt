@@ -50,16 +50,69 @@ fn watch_sized(fd: i32, name: &[u8], s: Settings, lengths: &[u16], n: u16, gate_
     let mut bank_f = [0.0f64; MOST_BANK_F];
     let mut gate = [0u16; GATE];
     let mut gate_f = [0.0f64; MOST_GATE_F];
-    let k = wide(n);
-    let bank_len = stores::bank_len(k);
-    let bank_f_len = stores::bank_f_len(k);
-    if bank_len > MOST_BANK {
+    watch_arrays(
+        fd,
+        name,
+        s,
+        lengths,
+        n,
+        gate_f_len,
+        &mut bank,
+        &mut bank_f,
+        &mut gate,
+        &mut gate_f,
+    );
+}
+
+// Whole arrays become slices here, with no proof of their lengths.
+fn watch_arrays(
+    fd: i32,
+    name: &[u8],
+    s: Settings,
+    lengths: &[u16],
+    n: u16,
+    gate_f_len: usize,
+    bank: &mut [u16; MOST_BANK],
+    bank_f: &mut [f64; MOST_BANK_F],
+    gate: &mut [u16; GATE],
+    gate_f: &mut [f64; MOST_GATE_F],
+) {
+    watch_parts(
+        fd,
+        name,
+        s,
+        lengths,
+        n,
+        gate_f_len,
+        bank,
+        bank_f,
+        gate,
+        gate_f,
+    );
+}
+
+// The parts of the stores that the recording takes.
+fn watch_parts(
+    fd: i32,
+    name: &[u8],
+    s: Settings,
+    lengths: &[u16],
+    n: u16,
+    gate_f_len: usize,
+    bank: &mut [u16],
+    bank_f: &mut [f64],
+    gate: &mut [u16],
+    gate_f: &mut [f64],
+) {
+    let bank_len = stores::bank_len(wide(n));
+    let bank_f_len = stores::bank_f_len(wide(n));
+    if bank_len > bank.len() {
         return;
     }
-    if bank_f_len > MOST_BANK_F {
+    if bank_f_len > bank_f.len() {
         return;
     }
-    if gate_f_len > MOST_GATE_F {
+    if gate_f_len > gate_f.len() {
         return;
     }
     hops::watch_with(
@@ -70,7 +123,7 @@ fn watch_sized(fd: i32, name: &[u8], s: Settings, lengths: &[u16], n: u16, gate_
         n,
         &mut bank[..bank_len],
         &mut bank_f[..bank_f_len],
-        &mut gate,
+        gate,
         &mut gate_f[..gate_f_len],
     );
 }

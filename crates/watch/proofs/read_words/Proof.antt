@@ -1,3 +1,4 @@
+use Prim.Native.Nat.{_-_}
 use borrow.Author.Needs.{needs}
 use Rattle.watch.proofs.read_words.Statement.{statement}
 use Rattle.watch.proofs.read_words.Tie as tie
@@ -9,10 +10,10 @@ use Rattle.watch_core.proofs.words.default_settings.Reads as default-settings-r
 use Rattle.watch_core.proofs.words.taken.Reads as taken-reads
 
 abbrev Inv-loop : tie.InvT-loop
-Inv-loop lengths₀ s₀ i₀ i-end lengths s i = ?
+Inv-loop lengths₀ s₀ i₀ i-end lengths s i = Unit {0}
 
 abbrev μ-loop : tie.MeasureT-loop
-μ-loop lengths₀ s₀ i₀ i-end lengths s i = ?
+μ-loop lengths₀ s₀ i₀ i-end lengths s i = i-end - i
 
 -- src/main.rt:15:9
 default-settings-requires : tie.Need-default-settings-requires Inv-loop μ-loop

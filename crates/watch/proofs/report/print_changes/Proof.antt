@@ -1,3 +1,6 @@
+use mathlib.Core.Path.{_≡_}
+use Prim.Native.Nat.{_-_}
+use lib.ListN.{length}
 use borrow.Author.Needs.{needs}
 use Rattle.watch.proofs.report.print_changes.Statement.{statement}
 use Rattle.watch.proofs.report.print_changes.Tie as tie
@@ -7,10 +10,10 @@ use Rattle.watch.proofs.report.print_change.Reads as print-change-reads
 use Rattle.watch_core.proofs.states.change_at.Reads as change-at-reads
 
 abbrev Inv-loop : tie.InvT-loop
-Inv-loop hop s bank bank-f gate gate-f alive rise drop k₀ k-end k = ?
+Inv-loop hop s bank bank-f gate gate-f alive rise drop k₀ k-end k = k-end ≡ length alive
 
 abbrev μ-loop : tie.MeasureT-loop
-μ-loop hop s bank bank-f gate gate-f alive rise drop k₀ k-end k = ?
+μ-loop hop s bank bank-f gate gate-f alive rise drop k₀ k-end k = k-end - k
 
 -- src/report.rt:284:5
 loop-holds : tie.Need-loop-holds Inv-loop μ-loop

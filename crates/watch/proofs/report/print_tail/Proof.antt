@@ -1,3 +1,6 @@
+use mathlib.Core.Path.{_≡_}
+use Prim.Native.Nat.{_-_}
+use lib.ListN.{length}
 use borrow.Author.Needs.{needs}
 use Rattle.watch.proofs.report.print_tail.Statement.{statement}
 use Rattle.watch.proofs.report.print_tail.Tie as tie
@@ -9,10 +12,10 @@ use Rattle.watch_core.proofs.states.count_at.Reads as count-at-reads
 use Rattle.watch_core.proofs.states.is_set.Reads as is-set-reads
 
 abbrev Inv-loop : tie.InvT-loop
-Inv-loop s hops bank bank-f alive alive-hops rises k₀ k-end k = ?
+Inv-loop s hops bank bank-f alive alive-hops rises k₀ k-end k = k-end ≡ length alive
 
 abbrev μ-loop : tie.MeasureT-loop
-μ-loop s hops bank bank-f alive alive-hops rises k₀ k-end k = ?
+μ-loop s hops bank bank-f alive alive-hops rises k₀ k-end k = k-end - k
 
 -- src/report.rt:469:9
 returns : tie.Need-returns Inv-loop μ-loop

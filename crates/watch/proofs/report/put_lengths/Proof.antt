@@ -1,3 +1,6 @@
+use mathlib.Core.Path.{_≡_}
+use Prim.Native.Nat.{_-_}
+use lib.ListN.{length}
 use borrow.Author.Needs.{needs}
 use Rattle.watch.proofs.report.put_lengths.Statement.{statement}
 use Rattle.watch.proofs.report.put_lengths.Tie as tie
@@ -8,10 +11,10 @@ use Rattle.watch_core.proofs.text.put_number.Reads as put-number-reads
 use Rattle.watch_core.proofs.text.put_text.Reads as put-text-reads
 
 abbrev Inv-loop : tie.InvT-loop
-Inv-loop line₀ at lengths end₀ i₀ t6 i-end line end i = ?
+Inv-loop line₀ at lengths end₀ i₀ t6 i-end line end i = i-end ≡ length lengths
 
 abbrev μ-loop : tie.MeasureT-loop
-μ-loop line₀ at lengths end₀ i₀ t6 i-end line end i = ?
+μ-loop line₀ at lengths end₀ i₀ t6 i-end line end i = i-end - i
 
 -- src/report.rt:73:5
 loop-holds : tie.Need-loop-holds Inv-loop μ-loop
