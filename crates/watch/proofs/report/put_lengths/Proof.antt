@@ -1,0 +1,79 @@
+use mathlib.Core.Path.{_≡_}
+use Prim.Native.Nat.{_-_}
+use lib.ListN.{length}
+use borrow.Author.Needs.{needs}
+use Rattle.watch.proofs.report.put_lengths.Statement.{statement}
+use Rattle.watch.proofs.report.put_lengths.Tie as tie
+use Rattle.watch.proofs.report.put_lengths.Reads as reads
+use Rattle.watch.proofs.report.put_lengths.Lts as lts
+use Rattle.watch.proofs.report.wide.Reads as wide-reads
+use Rattle.watch_core.proofs.text.put_number.Reads as put-number-reads
+use Rattle.watch_core.proofs.text.put_text.Reads as put-text-reads
+
+abbrev Inv-loop : tie.InvT-loop
+Inv-loop line₀ at lengths end₀ i₀ t6 i-end line end i = i-end ≡ length lengths
+
+abbrev μ-loop : tie.MeasureT-loop
+μ-loop line₀ at lengths end₀ i₀ t6 i-end line end i = i-end - i
+
+-- src/report.rt:73:5
+loop-holds : tie.Need-loop-holds Inv-loop μ-loop
+loop-holds c = search needs
+
+-- src/report.rt:74:35
+slice-aggregate-put-text : tie.Need-slice-aggregate-put-text Inv-loop μ-loop
+slice-aggregate-put-text c = search needs
+
+-- src/report.rt:74:9
+put-text-requires : tie.Need-put-text-requires Inv-loop μ-loop
+put-text-requires c κs = search needs
+
+-- src/report.rt:75:42
+mul-wide : tie.Need-mul-wide Inv-loop μ-loop
+mul-wide c = search needs
+
+-- src/report.rt:75:42
+shared-slice-read-wide : tie.Need-shared-slice-read-wide Inv-loop μ-loop
+shared-slice-read-wide c = search needs
+
+-- src/report.rt:75:37
+wide-requires : tie.Need-wide-requires Inv-loop μ-loop
+wide-requires c κs = search needs
+
+-- src/report.rt:75:9
+put-number-requires : tie.Need-put-number-requires Inv-loop μ-loop
+put-number-requires c κs = search needs
+
+-- src/report.rt:73:9
+add-i : tie.Need-add-i Inv-loop μ-loop
+add-i c = search needs
+
+-- src/report.rt:73:5
+loop-less : tie.Need-loop-less Inv-loop μ-loop
+loop-less c = search needs
+
+-- src/report.rt:73:5
+loop-again : tie.Need-loop-again Inv-loop μ-loop
+loop-again c = search needs
+
+-- src/report.rt:71:1
+returns : tie.Need-returns Inv-loop μ-loop
+returns c = search needs
+
+pub put-lengths-spec : {M : Type 1} → statement M
+put-lengths-spec =
+    tie.close
+    (tie.spec
+    Inv-loop
+    μ-loop
+    loop-holds
+    slice-aggregate-put-text
+    put-text-requires
+    mul-wide
+    shared-slice-read-wide
+    wide-requires
+    put-number-requires
+    add-i
+    loop-less
+    loop-again
+    returns)

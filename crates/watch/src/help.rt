@@ -1,0 +1,78 @@
+// What the program says of itself, and of a word that it cannot take.
+use libc::STDERR_FILENO;
+use libc::STDOUT_FILENO;
+use watch_core::words;
+use watch_core::words::Settings;
+
+fn say(text: &[u8]) {
+    io::write_all(STDOUT_FILENO, text);
+}
+
+pub fn print_help() {
+    say(
+        b"watch [OPTIONS] FILE    which channels of a recording are alive; FILE - is standard input\n\n",
+    );
+    say(
+        b"  --on DB        a channel rises at DB over its rise floor in two windows on end   (9)\n",
+    );
+    say(
+        b"  --off DB       it drops below DB over its effective floor                        (6)\n",
+    );
+    say(
+        b"  --early DB     it also rises at once at DB over its effective floor, or: none    (none)\n",
+    );
+    say(
+        b"  --lengths LIST up to eight window lengths of 1 to 375 hops, with commas   (15,75,375)\n",
+    );
+    say(
+        b"  --reference    adds the spectral reference, a linear power, of each channel that is alive\n",
+    );
+    say(b"  --csv          a line per slow hop (every 15th) and channel, for tools/plot.py\n");
+    say(b"  --help         this text\n\n");
+    say(
+        b"Levels are whole eighths of a dB from -100 to 100, as 8, 6.5 or -1.125. 375 hops are a second.\n\n",
+    );
+    say(
+        b"A recording is: n, the number of channels, 1 to 512, in two bytes; then for each hop a flag byte (1: static\n",
+    );
+    say(
+        b"is heard, so the reference and the gate hold; else 0), n dB values (f64) and n linear powers (f32). The lowest\n",
+    );
+    say(b"byte of each number is first.\n\n");
+    say(
+        b"It prints the settings, a line for each change of a channel's state, and at the end the floors of each channel and\n",
+    );
+    say(
+        b"how long it was alive. What is wrong with a recording goes to standard error, with the hop and the byte, and\n",
+    );
+    say(b"what came before is still reported.\n");
+}
+
+fn cry(text: &[u8]) {
+    io::write_all(STDERR_FILENO, text);
+}
+
+fn print_reason(fault: u8) {
+    match fault {
+        words::UNKNOWN => cry(b" is no option; watch --help lists them\n"),
+        words::BAD_LEVEL => cry(b" is no level: whole eighths of a dB from -100 to 100, as 6.5\n"),
+        words::BAD_LENGTHS => cry(
+            b" is no list of one to eight lengths of 1 to 375 hops, as 15,75,375\n",
+        ),
+        words::NO_VALUE => cry(b" is the last word and needs a value\n"),
+        words::SECOND_FILE => cry(b" is a second recording; watch takes one\n"),
+        _ => cry(b" is too long\n"),
+    }
+}
+
+// Names the word and its number.
+pub fn print_fault(s: Settings) {
+    let mut word = io::buffer();
+    let len = os::arg(s.word, &mut word);
+    cry(b"watch: word ");
+    io::print_decimal(STDERR_FILENO, s.word as u64);
+    cry(b", ");
+    io::write_all(STDERR_FILENO, &word[..len]);
+    cry(b",");
+    print_reason(s.fault);
+}

@@ -1,0 +1,4 @@
+pub mod Recording
+pub mod States
+pub mod Text
+pub mod Words
