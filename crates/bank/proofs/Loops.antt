@@ -16,14 +16,14 @@ use Rattle.model.specs.Numbers.{f0, powerLinear, smoothed}
 use Rattle.model.specs.Ring.{binOf, pushIn, rawFloor, usableFloor, since, entries}
 use Rattle.model.specs.Bank.{FloorBank, hop, powerAfter, smoothAfter, seedsAfter, sumsAfter, block, blocks, median, riseFloor, channel, channelAfter, chansAfter, freshChannel, rawFloors, usableFloors, blockFloors, riseFloors}
 use Rattle.model.specs.Stores.{chanU, chanOf, chanPart, base, bankU, bankF, bankOf, bankLen, bankFLen}
-use Rattle.ring.specs.Sound.{Sound}
+use Rattle.model.specs.Sound.{Sound}
 use Rattle.laws.proofs.Counting.{occ-le}
-use Rattle.ring.proofs.Stored.{length-chanU}
-use Rattle.ring.proofs.Sound.{sound-push}
-use Rattle.ring.proofs.Floats.{bin-below}
-use Rattle.stores.specs.Good.{Good, Ready}
-use Rattle.stores.proofs.Encode.{Lengths, bank-forth-u, bank-forth-f, put-raw, put-usable, put-smooth, put-rise, put-block, put-sums, put-seeds, put-chans}
-use Rattle.stores.proofs.Goods.{lengths}
+use Rattle.model.proofs.Channels.{length-chanU}
+use Rattle.model.proofs.SoundRings.{sound-push}
+use Rattle.model.proofs.Bins.{bin-below}
+use Rattle.model.specs.GoodBank.{Good, Ready}
+use Rattle.model.proofs.BankStores.{Lengths, bank-forth-u, bank-forth-f, put-raw, put-usable, put-smooth, put-rise, put-block, put-sums, put-seeds, put-chans}
+use Rattle.model.proofs.GoodBanks.{lengths}
 use Rattle.bank.specs.Steps.{Holds, smoothStep, seedStep, pushStep, rawStep, usableStep, blockStep, riseStep}
 
 -- ---- what a loop knows of the stores of n channels

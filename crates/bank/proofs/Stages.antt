@@ -17,13 +17,13 @@ use Rattle.model.specs.Bank.{FloorBank, Hop, hop, blocks, channel, channelAfter
 use Rattle.model.specs.Stores.{bankU, bankF, bankOf}
 use Rattle.model.specs.Refusals.{bankRefusal, updateRefusal}
 use Rattle.model.specs.Calls.{leaves, bankUpdate}
-use Rattle.ring.specs.Sound.{Sound}
-use Rattle.ring.proofs.Floats.{bin-below}
-use Rattle.ring.proofs.Sound.{sound-push}
-use Rattle.stores.specs.Good.{Good, Ready}
-use Rattle.stores.proofs.Encode.{bank-forth-u, bank-forth-f}
-use Rattle.stores.proofs.Goods.{bank-back, good-ready, ready, length-bankU}
-use Rattle.stores.proofs.Fresh.{seeds-slow}
+use Rattle.model.specs.Sound.{Sound}
+use Rattle.model.proofs.Bins.{bin-below}
+use Rattle.model.proofs.SoundRings.{sound-push}
+use Rattle.model.specs.GoodBank.{Good, Ready}
+use Rattle.model.proofs.BankStores.{bank-forth-u, bank-forth-f}
+use Rattle.model.proofs.GoodBanks.{bank-back, good-ready, ready, length-bankU}
+use Rattle.model.proofs.FreshBanks.{seeds-slow}
 use Rattle.bank.specs.Steps.{Holds, Headed, with, advanced, smoothStep, seedStep, pushStep, rawStep, usableStep, blockStep, riseStep, floorStep, phaseStep}
 
 -- ---- each step keeps a bank sound and its number of channels

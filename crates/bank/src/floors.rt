@@ -3,7 +3,7 @@ ghost use mathlib.Core.Path.{_≡_};
 ghost use lib.ListN.{getD};
 ghost use Rattle.model.specs.Bank.{rawFloors};
 ghost use Rattle.model.specs.Stores.{bankF, bankOf};
-ghost use Rattle.stores.specs.Good.{Ready};
+ghost use Rattle.model.specs.GoodBank.{Ready};
 ghost use Rattle.bank.specs.Steps.{rawStep, usableStep, blockStep, riseStep};
 
 pub fn raw_floors(bank_f: &mut [f64], bank: &[u16], n: usize)

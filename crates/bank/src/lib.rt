@@ -8,7 +8,7 @@ ghost use lib.ListN.{length, getD};
 ghost use Rattle.model.specs.Bank.{hop, bankStep};
 ghost use Rattle.model.specs.Stores.{bankF, bankOf};
 ghost use Rattle.model.specs.Calls.{bankUpdate};
-ghost use Rattle.stores.specs.Good.{Ready};
+ghost use Rattle.model.specs.GoodBank.{Ready};
 ghost use Rattle.bank.specs.Steps.{Holds, Headed, smoothStep, floorStep, advanced};
 
 // (a) The smoothed powers: the first hop ever starts them, a held one leaves them.

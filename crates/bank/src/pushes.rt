@@ -5,8 +5,8 @@ ghost use lib.ListN.{length, getD};
 ghost use Rattle.laws.specs.Lists.{part, splice};
 ghost use Rattle.model.specs.Ring.{binOf, pushIn};
 ghost use Rattle.model.specs.Stores.{chanU, chanOf, bankU, bankOf};
-ghost use Rattle.ring.specs.Sound.{Sound};
-ghost use Rattle.stores.specs.Good.{Ready};
+ghost use Rattle.model.specs.Sound.{Sound};
+ghost use Rattle.model.specs.GoodBank.{Ready};
 ghost use Rattle.bank.specs.Steps.{Holds, seedStep, pushStep};
 
 // The channel at `a` takes the bin of p.

@@ -17,11 +17,11 @@ use Rattle.model.specs.Refusals.{bankRefusal}
 use Rattle.model.specs.Gate.{Gate, gateStep}
 use Rattle.model.specs.GateStores.{gateOf}
 use Rattle.model.specs.GateCalls.{GateHop, gateRefusal, pairRefusal, gateUpdateRefusal, holdRefusal, gateLeaves, marksOf, gateUpdate, gateHold}
-use Rattle.stores.proofs.Goods.{ready}
-use Rattle.gate_store.specs.GoodGate.{GoodGate, GateReady}
+use Rattle.model.proofs.GoodBanks.{ready}
+use Rattle.model.specs.GoodGate.{GoodGate, GateReady}
 use Rattle.gate_store.specs.Checks.{smoothedRefusal, earlyRefusal}
-use Rattle.gate_store.proofs.Goods.{gate-ready, n-of}
-use Rattle.gate_store.proofs.Fresh.{good-gate-step}
+use Rattle.model.proofs.GoodGates.{gate-ready, n-of}
+use Rattle.model.proofs.FreshGates.{good-gate-step}
 use Rattle.gate_store.proofs.Looks.{held-ready, held-is}
 use Rattle.gate.specs.Paired.{Paired, Marked}
 use Rattle.gate.specs.Steps.{Holds}

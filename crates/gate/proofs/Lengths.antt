@@ -15,9 +15,9 @@ use Rattle.model.specs.Windows.{PowerLooks, lookRises, anyRises}
 use Rattle.model.specs.GateStores.{lookSize, mAt, gateOf}
 use Rattle.windows.specs.declared.Cursor.{Cursor}
 use Rattle.windows.specs.Looks.{LookFits, CursorFits, looksIn}
-use Rattle.gate_store.specs.GoodGate.{GateReady}
-use Rattle.gate_store.proofs.Encode.{startAt, sizeAt, lookIn}
-use Rattle.gate_store.proofs.Goods.{sizes, look-good, look-fits, looks-of}
+use Rattle.model.specs.GoodGate.{GateReady}
+use Rattle.model.proofs.GateStores.{startAt, sizeAt, lookIn}
+use Rattle.model.proofs.GoodGates.{sizes, look-good, look-fits, looks-of}
 use Rattle.gate.specs.Paired.{cursorOf}
 
 -- the smoothed dB lie in the f64 store

@@ -21,7 +21,7 @@ use Rattle.model.specs.Ladder.{ladder}
 use Rattle.model.specs.Windows.{anyRises}
 use Rattle.model.specs.Gate.{Gate, levelOf, earlyRise, thresholdAt, windowRise, dropAt, riseBytes, dropBytes}
 use Rattle.model.specs.GateStores.{gateOf}
-use Rattle.gate_store.specs.GoodGate.{GateReady}
+use Rattle.model.specs.GoodGate.{GateReady}
 use Rattle.gate.proofs.Lengths.{smooth-within}
 
 -- ---- one channel

@@ -9,9 +9,9 @@ use Rattle.laws.proofs.Tabs.{length-tab, tab-same}
 use Rattle.model.specs.Numbers.{f0, smoothed}
 use Rattle.model.specs.Gate.{Gate, dbAfter, gateStep}
 use Rattle.model.specs.GateStores.{gateU, gateF, gateOf}
-use Rattle.gate_store.specs.GoodGate.{GoodGate, GateReady}
-use Rattle.gate_store.proofs.Goods.{n-of, started-of, smooth-of}
-use Rattle.gate_store.proofs.Fresh.{withStarted, smoothAfter, good-smooth}
+use Rattle.model.specs.GoodGate.{GoodGate, GateReady}
+use Rattle.model.proofs.GoodGates.{n-of, started-of, smooth-of}
+use Rattle.model.proofs.FreshGates.{withStarted, smoothAfter, good-smooth}
 use Rattle.gate_store.proofs.Looks.{put-smooth, holds-u, holds-f, held-ready, held-is}
 use Rattle.gate.specs.Steps.{Holds, smoothStep, looksStep}
 

@@ -12,11 +12,11 @@ use Rattle.model.specs.Gate.{sampleOf}
 use Rattle.model.specs.GateStores.{lookSize, lookF, gateU, gateF, gateOf}
 use Rattle.windows.specs.declared.Cursor.{Cursor}
 use Rattle.windows.specs.Looks.{cursorIn, steppedLook}
-use Rattle.gate_store.specs.GoodGate.{GoodLook, GateReady}
-use Rattle.gate_store.proofs.Encode.{startAt, sizeAt, lookIn}
-use Rattle.gate_store.proofs.Goods.{look-good}
+use Rattle.model.specs.GoodGate.{GoodLook, GateReady}
+use Rattle.model.proofs.GateStores.{startAt, sizeAt, lookIn}
+use Rattle.model.proofs.GoodGates.{look-good}
 use Rattle.gate_store.proofs.Looks.{Steady, steady-step, looksU, looksF, looks-long-f, looks-lent, looks-ahead, looks-turn-u, looks-turn-f, looks-end-u, looks-end-f}
-use Rattle.gate_store.proofs.Fresh.{withLooks, good-step-look}
+use Rattle.model.proofs.FreshGates.{withLooks, good-step-look}
 use Rattle.gate.specs.Paired.{cursorOf}
 use Rattle.gate.specs.Steps.{Holds, looksStep}
 use Rattle.gate.proofs.Lengths.{lent-looks}

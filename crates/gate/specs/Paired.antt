@@ -7,9 +7,9 @@ use lib.Ieee.{Float}
 use Rattle.model.specs.Bank.{FloorBank}
 use Rattle.model.specs.Gate.{Gate, riseBytes, dropBytes}
 use Rattle.model.specs.GateStores.{mAt, cursorAt, filledAt}
-use Rattle.stores.specs.Good.{Ready}
+use Rattle.model.specs.GoodBank.{Ready}
 use Rattle.windows.specs.declared.Cursor.{Cursor}
-use Rattle.gate_store.specs.GoodGate.{GateReady}
+use Rattle.model.specs.GoodGate.{GateReady}
 
 -- a sound bank and a sound gate of as many channels
 pub record Paired (bu : List ℕ) (bf : List Float) (gu : List ℕ) (gf : List Float) : Type 0 where

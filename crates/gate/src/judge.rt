@@ -11,7 +11,7 @@ ghost use Rattle.model.specs.Readings.{effectiveAt};
 ghost use Rattle.model.specs.Windows.{anyRises};
 ghost use Rattle.model.specs.Gate.{levelOf, earlyRise, windowRise};
 ghost use Rattle.model.specs.GateStores.{gateOf};
-ghost use Rattle.gate_store.specs.GoodGate.{GateReady};
+ghost use Rattle.model.specs.GoodGate.{GateReady};
 ghost use Rattle.gate.specs.Paired.{Paired, Marked};
 use crate::triples::cursor;
 use crate::triples::wide;

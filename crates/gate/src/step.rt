@@ -5,7 +5,7 @@ ghost use Rattle.laws.specs.Lists.{tab};
 ghost use Rattle.model.specs.Numbers.{f0, smoothed};
 ghost use Rattle.model.specs.Gate.{gateStep};
 ghost use Rattle.model.specs.GateStores.{gateF, gateOf};
-ghost use Rattle.gate_store.specs.GoodGate.{GateReady};
+ghost use Rattle.model.specs.GoodGate.{GateReady};
 ghost use Rattle.gate.specs.Steps.{Holds, smoothStep, looksStep};
 use crate::triples::cursor;
 use crate::triples::put_cursor;

@@ -14,11 +14,11 @@ use Rattle.laws.proofs.Runs.{replaced, run-upto, run-begins, run-long, run-lent
 use Rattle.model.specs.Windows.{PowerLooks, stepLook}
 use Rattle.model.specs.Gate.{Gate}
 use Rattle.model.specs.GateStores.{triple, gateU, gateF, mAt, cursorAt, filledAt, lookF, lookOf, gateOf}
-use Rattle.windows.proofs.Encode.{look-forth}
-use Rattle.gate_store.specs.GoodGate.{GoodLook, GoodGate, GateReady}
-use Rattle.gate_store.proofs.Encode.{gate-forth-u, gate-forth-f, lookIn, startAt, sizeAt, starts-meet, header, zeros-forth}
-use Rattle.gate_store.proofs.Goods.{looks-of, smooth-of, gate-back, good-gate-ready, sizes, look-good, look-fits, length-lookF}
-use Rattle.gate_store.proofs.Fresh.{withLooks, withSmooth, withStarted, good-step-look, step-look-m}
+use Rattle.model.proofs.WindowStores.{look-forth}
+use Rattle.model.specs.GoodGate.{GoodLook, GoodGate, GateReady}
+use Rattle.model.proofs.GateStores.{gate-forth-u, gate-forth-f, lookIn, startAt, sizeAt, starts-meet, header, zeros-forth}
+use Rattle.model.proofs.GoodGates.{looks-of, smooth-of, gate-back, good-gate-ready, sizes, look-good, look-fits, length-lookF}
+use Rattle.model.proofs.FreshGates.{withLooks, withSmooth, withStarted, good-step-look, step-look-m}
 
 -- ---- the two stores after k turns
 

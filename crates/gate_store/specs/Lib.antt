@@ -1,3 +1,2 @@
-pub mod GoodGate
 pub mod Checks
 pub mod Makes

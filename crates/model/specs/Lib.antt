@@ -11,3 +11,10 @@ pub mod Gate
 pub mod GateStores
 pub mod GateCalls
 pub mod Bench
+pub mod Sound
+pub mod GoodBank
+pub mod GoodGate
+pub mod Reach
+pub mod Demand3
+pub mod Sets
+pub mod Exports

@@ -4,7 +4,7 @@ ghost use Prim.Native.Nat.{_≤_, _<_};
 ghost use lib.ListN.{length, getD};
 ghost use Rattle.model.specs.Ring.{entries, smallest, quartile, rawFloor, usableFloor};
 ghost use Rattle.model.specs.Stores.{chanOf};
-ghost use Rattle.ring.specs.Sound.{Sound};
+ghost use Rattle.model.specs.Sound.{Sound};
 
 fn wide(x: u16) -> usize
     ensures { λ r. ⌜ r ≡ x ⌝ }

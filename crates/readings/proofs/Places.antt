@@ -18,9 +18,9 @@ use Rattle.model.specs.Bank.{blocks, effectiveFloor}
 use Rattle.model.specs.Stores.{bankOf, chanOf, chanPart}
 use Rattle.model.specs.Refusals.{bankRefusal, readRefusal}
 use Rattle.model.specs.Readings.{rawAt, riseAt, effectiveAt, below, above, referenceAt}
-use Rattle.ring.specs.Sound.{Sound}
-use Rattle.stores.specs.Good.{Ready}
-use Rattle.stores.proofs.Goods.{ready, channel-at}
+use Rattle.model.specs.Sound.{Sound}
+use Rattle.model.specs.GoodBank.{Ready}
+use Rattle.model.proofs.GoodBanks.{ready, channel-at}
 use Rattle.readings.specs.Readable.{Readable}
 
 pub from-ready : (u : List ℕ) (f : List Float) (k : ℕ) → Ready u f → k < getD u 0 0 → Readable u f k

@@ -5,7 +5,7 @@ use Prim.Native.Nat.{ℕ, _≤_, _<_}
 use lib.ListN.{length, getD}
 use lib.Ieee.{Float}
 use Rattle.model.specs.Stores.{bankLen, bankFLen, chanOf, chanPart}
-use Rattle.ring.specs.Sound.{Sound}
+use Rattle.model.specs.Sound.{Sound}
 
 pub record Readable (u : List ℕ) (f : List Float) (k : ℕ) : Type 0 where
   pub below : k < getD u 0 0

@@ -13,9 +13,9 @@ use Rattle.laws.proofs.Lists.{length-part, getD-part}
 use Rattle.model.specs.Ring.{ChannelFloor, uncounted, oldest, entries, pushAs, push, pushIn}
 use Rattle.model.specs.Stores.{chanU, chanOf}
 use Rattle.ring.specs.Push.{roomed, entered, Roomy}
-use Rattle.ring.specs.Sound.{Sound}
+use Rattle.model.specs.Sound.{Sound}
 use Rattle.laws.proofs.Counting.{occ-le, set-append-add}
-use Rattle.ring.proofs.Stored.{chan-back, chan-forth, length-chanU}
+use Rattle.model.proofs.Channels.{chan-back, chan-forth, length-chanU}
 
 -- ---- what the code stores into the 533 entries, as a channel
 

@@ -7,7 +7,7 @@ ghost use lib.ListN.{length, getD};
 ghost use Rattle.laws.specs.Lists.{one};
 ghost use Rattle.model.specs.Ring.{binOf, centreOf, oldest, pushIn, since};
 ghost use Rattle.model.specs.Stores.{chanU, chanOf};
-ghost use Rattle.ring.specs.Sound.{Sound};
+ghost use Rattle.model.specs.Sound.{Sound};
 ghost use Rattle.ring.specs.Push.{roomed, entered, Roomy};
 
 // A channel's 533 entries: 250 ring, 280 counts, next place, filled, lead.

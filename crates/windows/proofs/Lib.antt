@@ -1,4 +1,3 @@
-pub mod Encode
 pub mod Begun
 pub mod Loops
 pub mod Steps

@@ -15,7 +15,7 @@ use Rattle.laws.proofs.Defaults.{getD-any}
 use Rattle.model.specs.Numbers.{f0}
 use Rattle.model.specs.Windows.{PowerLooks, ringOf, oldAt, middleAt, middleOf, pushLook, rebaseLook, total}
 use Rattle.model.specs.GateStores.{lookF}
-use Rattle.windows.proofs.Encode.{Shaped, rings-long, ring-part, part-front}
+use Rattle.model.proofs.WindowStores.{Shaped, rings-long, ring-part, part-front}
 use Rattle.windows.proofs.Begun.{begun, begun-long, begun-at, begun-next, begun-done, set-skip, getD-skip, rowed, rowed-long, rowed-at, rowed-next, rowed-done}
 
 -- the rings as they stand in the part

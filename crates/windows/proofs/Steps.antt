@@ -10,7 +10,7 @@ use Rattle.model.specs.Gate.{sampleOf}
 use Rattle.model.specs.GateStores.{lookSize, lookF}
 use Rattle.windows.specs.declared.Cursor.{Cursor}
 use Rattle.windows.specs.Looks.{LookFits, looksIn, cursorIn, advancedOf, steppedLook}
-use Rattle.windows.proofs.Encode.{Shaped, look-long, look-back, read-shaped}
+use Rattle.model.proofs.WindowStores.{Shaped, look-long, look-back, read-shaped}
 
 pub push-shaped : (n : ℕ) (sample : ℕ → Float) (s : PowerLooks) → Shaped n s → Shaped n (pushLook n sample s)
 unfolding pushLook

@@ -11,7 +11,7 @@ use Rattle.model.specs.Gate.{earlyRise}
 use Rattle.model.specs.GateStores.{gateOf}
 use Rattle.model.specs.GateCalls.{earlyReading}
 use Rattle.readings.proofs.Answers.{refused, valued}
-use Rattle.gate_store.proofs.Goods.{started-of}
+use Rattle.model.proofs.GoodGates.{started-of}
 use Rattle.gate.proofs.Calls.{readable-pair}
 use borrow.Author.Needs.{needs}
 use Rattle.gate.proofs.ema_rise.Statement.{statement}

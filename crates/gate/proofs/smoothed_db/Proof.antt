@@ -5,7 +5,7 @@ use native.Mathlib.Omega.{arith}
 use lib.ListN.{getD}
 use Rattle.model.specs.GateCalls.{smoothedReading}
 use Rattle.readings.proofs.Answers.{refused, valued}
-use Rattle.gate_store.specs.GoodGate.{GateReady}
+use Rattle.model.specs.GoodGate.{GateReady}
 use Rattle.gate.proofs.Lengths.{smooth-within}
 use Rattle.gate.proofs.Marks.{smooth-at}
 use Rattle.gate.proofs.Calls.{readable-gate}

@@ -3,7 +3,7 @@ use mathlib.Core.Path.{refl, sym, _∙_}
 use native.Mathlib.Omega.{arith}
 use lib.Dec.{lit≤}
 use lib.Ieee.{ofBits}
-use Rattle.ring.proofs.Floats.{Between, between, above, below}
+use Rattle.model.proofs.Bins.{Between, between, above, below}
 use Rattle.ladder.proofs.floor_held.Statement.{statement}
 use Rattle.ladder.proofs.floor_held.Tie as tie
 

@@ -2,7 +2,7 @@
 use mathlib.Core.Path.{sym, _∙_}
 use lib.Ieee.Compare.{differs-from-itself}
 use Rattle.laws.proofs.Floats.{ne-self}
-use Rattle.ring.proofs.Floats.{holds}
+use Rattle.model.proofs.Bins.{holds}
 use Rattle.model.specs.Ladder.{ladder}
 use borrow.Author.Needs.{needs}
 use Rattle.ladder.proofs.ladder.Statement.{statement}

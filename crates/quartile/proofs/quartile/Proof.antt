@@ -7,7 +7,7 @@ use borrow.Author.Needs.{needs}
 use Rattle.laws.proofs.Lists.{getD-part}
 use Rattle.model.specs.Ring.{ChannelFloor, centreOf}
 use Rattle.model.specs.Stores.{chanOf}
-use Rattle.quartile.proofs.Channel.{skip-within, nothing-left, some-left}
+use Rattle.model.proofs.ChannelRank.{skip-within, nothing-left, some-left}
 use Rattle.quartile.proofs.quartile.Statement.{statement}
 use Rattle.quartile.proofs.quartile.Tie as tie
 

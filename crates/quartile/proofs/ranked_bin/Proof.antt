@@ -8,8 +8,8 @@ use borrow.Author.Needs.{needs}
 use Rattle.laws.specs.Lists.{occ}
 use Rattle.model.specs.Ring.{entries}
 use Rattle.model.specs.Stores.{chanOf}
-use Rattle.quartile.proofs.Rank.{under}
-use Rattle.quartile.proofs.Channel.{Scan, scan-begins, scan-turns, scan-finds, count-at, under-top}
+use Rattle.model.proofs.Rank.{under}
+use Rattle.model.proofs.ChannelRank.{Scan, scan-begins, scan-turns, scan-finds, count-at, under-top}
 use Rattle.quartile.proofs.ranked_bin.Statement.{statement}
 use Rattle.quartile.proofs.ranked_bin.Tie as tie
 

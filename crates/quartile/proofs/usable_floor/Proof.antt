@@ -6,7 +6,7 @@ use borrow.Author.Needs.{needs}
 use Rattle.laws.proofs.Lists.{getD-part}
 use Rattle.model.specs.Ring.{ChannelFloor, quartile}
 use Rattle.model.specs.Stores.{chanOf}
-use Rattle.quartile.proofs.Channel.{no-lead, all-lead, some-lead}
+use Rattle.model.proofs.ChannelRank.{no-lead, all-lead, some-lead}
 use Rattle.quartile.proofs.usable_floor.Statement.{statement}
 use Rattle.quartile.proofs.usable_floor.Tie as tie
 

@@ -5,7 +5,7 @@ use lib.Dec.{lit≤}
 use lib.Ieee.{Float, div, add, binary64, ofBits}
 use Rattle.model.specs.Numbers.{f140, half}
 use Rattle.model.specs.Ring.{binOf}
-use Rattle.ring.proofs.Floats.{Between, between, above, below}
+use Rattle.model.proofs.Bins.{Between, between, above, below}
 use Rattle.ring.proofs.bin_index.Statement.{statement}
 use Rattle.ring.proofs.bin_index.Tie as tie
 

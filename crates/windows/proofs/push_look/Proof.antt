@@ -13,7 +13,7 @@ use Rattle.windows.specs.declared.Middle.{Middle}
 use Rattle.windows.specs.Looks.{looksIn}
 use Rattle.model.specs.Gate.{sampleOf}
 use Rattle.model.specs.GateStores.{lookOf}
-use Rattle.windows.proofs.Encode.{Shaped, look-forth, read-shaped}
+use Rattle.model.proofs.WindowStores.{Shaped, look-forth, read-shaped}
 use Rattle.windows.proofs.Loops.{pushedTo, push-begins, push-turns, push-done}
 use borrow.Author.Needs.{needs}
 use Rattle.windows.proofs.push_look.Statement.{statement}

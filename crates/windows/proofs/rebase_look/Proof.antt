@@ -9,7 +9,7 @@ use Rattle.model.specs.Numbers.{f0}
 use Rattle.model.specs.Windows.{PowerLooks, total}
 use Rattle.model.specs.GateStores.{lookOf}
 use Rattle.windows.specs.Looks.{looksIn}
-use Rattle.windows.proofs.Encode.{Shaped, look-forth, read-shaped}
+use Rattle.model.proofs.WindowStores.{Shaped, look-forth, read-shaped}
 use Rattle.windows.proofs.Loops.{rebasedTo, first-half, last-half, rebase-turns, rebase-done}
 use borrow.Author.Needs.{needs}
 use Rattle.windows.proofs.rebase_look.Statement.{statement}

@@ -2,7 +2,7 @@
 use native.Mathlib.Omega.{arith}
 use borrow.Author.Needs.{needs}
 use Rattle.laws.proofs.Lists.{width, length-part}
-use Rattle.ring.proofs.Floats.{bin-below}
+use Rattle.model.proofs.Bins.{bin-below}
 use Rattle.bank.proofs.pushes.push_at.Statement.{statement}
 use Rattle.bank.proofs.pushes.push_at.Tie as tie
 

@@ -3,7 +3,7 @@ use mathlib.Core.Path.{_≡_, sym, _∙_}
 use lib.ListN.{length}
 use Rattle.model.specs.Stores.{bankOf}
 use Rattle.model.specs.GateStores.{gateOf}
-use Rattle.gate_store.proofs.Goods.{n-of, started-of}
+use Rattle.model.proofs.GoodGates.{n-of, started-of}
 use Rattle.gate.proofs.Marks.{rises-cleared, drops-cleared}
 use borrow.Author.Needs.{needs}
 use Rattle.gate.proofs.judge.judge.Statement.{statement}

@@ -15,7 +15,7 @@ use Rattle.block.proofs.Counts.{flag}
 use Rattle.block.proofs.Fills.{Filled, begins, turns, done}
 use Rattle.readings.proofs.Places.{from-ready}
 use Rattle.gate.proofs.Lengths.{smooth-within}
-use Rattle.gate_store.proofs.Goods.{n-of, started-of}
+use Rattle.model.proofs.GoodGates.{n-of, started-of}
 use Rattle.gate.proofs.Marks.{drop-is, rises-marked, drops-marked}
 use borrow.Author.Needs.{needs}
 use Rattle.gate.proofs.judge.mark.Statement.{statement}

@@ -12,9 +12,9 @@ use Rattle.laws.proofs.Tests.{any-more, any-at, any-done}
 use Rattle.model.specs.Windows.{lookRises}
 use Rattle.model.specs.GateStores.{mAt, lookSize}
 use Rattle.windows.specs.declared.Cursor.{Cursor}
-use Rattle.gate_store.specs.GoodGate.{GateReady}
-use Rattle.gate_store.proofs.Encode.{startAt}
-use Rattle.gate_store.proofs.Goods.{sizes}
+use Rattle.model.specs.GoodGate.{GateReady}
+use Rattle.model.proofs.GateStores.{startAt}
+use Rattle.model.proofs.GoodGates.{sizes}
 use Rattle.gate.proofs.Lengths.{lent-within, lent-fits, lent-looks, small-length, risesAt, any-is}
 use borrow.Author.Needs.{needs}
 use Rattle.gate.proofs.judge.window_rise.Statement.{statement}

@@ -8,9 +8,9 @@ use lib.ListN.{length, getD}
 use lib.Ieee.{Float}
 use Rattle.laws.specs.Lists.{part}
 use Rattle.model.specs.GateStores.{mAt, lookSize}
-use Rattle.gate_store.specs.GoodGate.{GateReady}
-use Rattle.gate_store.proofs.Encode.{startAt, sizeAt}
-use Rattle.gate_store.proofs.Goods.{sizes}
+use Rattle.model.specs.GoodGate.{GateReady}
+use Rattle.model.proofs.GateStores.{startAt, sizeAt}
+use Rattle.model.proofs.GoodGates.{sizes}
 use Rattle.gate_store.proofs.Looks.{looksU, looksF, looks-begin-u, looks-begin-f, looks-long-u, looks-long-f}
 use Rattle.windows.specs.declared.Cursor.{Cursor}
 use Rattle.gate.specs.Paired.{cursorOf}

@@ -1,0 +1,255 @@
+-- Calls on the stores of a sound bank and a sound gate: they stay sound, a list of calls is its accepted bank updates on the bank and its
+-- accepted gate updates on the gate, and what is refused hangs on the bank's n and phase, the gate's n and the arguments. Assumes nothing.
+use mathlib.Core.Path.{_≡_, refl, sym, ap, ap₂, _∙_, subst}
+use mathlib.Core.List.{List, [], _∷_, _++_, map}
+use mathlib.Core.Bool.{_&&_, _||_}
+use Prim.Native.Nat.{ℕ, zero, suc, _+_, _%_}
+use native.Mathlib.Omega.{arith}
+use lib.ListN.{length}
+use lib.Dec.{eqb}
+use lib.Ieee.{Float}
+use Rattle.laws.specs.Tests.{differ, first}
+use Rattle.model.specs.Bank.{FloorBank, Hop, bankStep}
+use Rattle.model.specs.Stores.{bankOf}
+use Rattle.model.specs.Refusals.{bankRefusal, garbled, updateRefusal}
+use Rattle.model.specs.Calls.{leaves, bankUpdate}
+use Rattle.model.specs.Gate.{Gate, gateStep, riseBytes}
+use Rattle.model.specs.GateStores.{gateOf}
+use Rattle.model.specs.GateCalls.{GateHop, gateRefusal, orElse, pairRefusal, gateUpdateRefusal, holdRefusal, gateLeaves, marksOf, gateUpdate, gateHold}
+use Rattle.model.specs.GoodBank.{Good}
+use Rattle.model.proofs.GoodBanks.{bank-back, passes}
+use Rattle.model.proofs.FreshBanks.{good-step}
+use Rattle.model.specs.GoodGate.{GoodGate}
+use Rattle.model.proofs.GoodGates.{gate-back, gate-passes}
+use Rattle.model.proofs.FreshGates.{good-gate-step}
+use Rattle.model.specs.Demand3.{Call, Arguments, bank, gate, hold, Stores, step, answer, left, risesOf, arguments, leftBy, answers, bankHop, gateHop, bankHops, gateHops, bankIn}
+use Rattle.model.specs.Sets.{gateIn, Sound}
+use Rattle.model.proofs.SettledFloors.{runBank, n-run, phase-run}
+use Rattle.model.proofs.Rises.{runGate, make-run}
+
+good-run : (hs : List Hop) (b : FloorBank) → Good b → Good (runBank b hs)
+good-run [] b g = g
+good-run (h ∷ hs) b g = good-run hs (bankStep b h) (good-step b h g)
+
+good-gate-run : (hs : List GateHop) (g : Gate) → GoodGate g → GoodGate (runGate g hs)
+good-gate-run [] g q = q
+good-gate-run (h ∷ hs) g q = good-gate-run hs (gateStep g (h .db) (h .power)) (good-gate-step g (h .db) (h .power) q)
+
+-- ---- what a call leaves
+
+pub record Left (s : Stores) (c : Call) : Type 0 where
+  pub bank-passes : bankRefusal (left s c .bu) (left s c .bf) ≡ 0
+  pub bank-is : bankIn (left s c) ≡ runBank (bankIn s) (bankHop (answer s c) (arguments c))
+  pub gate-passes : gateRefusal (left s c .gu) (left s c .gf) ≡ 0
+  pub gate-is : gateIn (left s c) ≡ runGate (gateIn s) (gateHop (answer s c) (arguments c))
+
+-- whatever a call answers: no bank update on the bank, no gate update on the gate
+no-bank : (r : ℕ) (h : GateHop) (i j : ℕ) → bankHop r (gate h i j) ≡ []
+no-bank zero h i j = refl
+no-bank (suc r) h i j = refl
+
+no-bank-hold : (r i j : ℕ) → bankHop r (hold i j) ≡ []
+no-bank-hold zero i j = refl
+no-bank-hold (suc r) i j = refl
+
+no-gate : (r : ℕ) (h : Hop) → gateHop r (bank h) ≡ []
+no-gate zero h = refl
+no-gate (suc r) h = refl
+
+no-gate-hold : (r i j : ℕ) → gateHop r (hold i j) ≡ []
+no-gate-hold zero i j = refl
+no-gate-hold (suc r) i j = refl
+
+leaves-bank : (u : List ℕ) (f : List Float) (h : Hop) → bankRefusal u f ≡ 0 → Good (bankOf u f) → (r : ℕ)
+    → (bankRefusal (leaves r (bankStep (bankOf u f) h) u f .1) (leaves r (bankStep (bankOf u f) h) u f .2) ≡ 0)
+    × (bankOf (leaves r (bankStep (bankOf u f) h) u f .1) (leaves r (bankStep (bankOf u f) h) u f .2)
+    ≡ runBank (bankOf u f) (bankHop (leaves r (bankStep (bankOf u f) h) u f .0) (bank h)))
+leaves-bank u f h p g zero = let q = good-step (bankOf u f) h g in (passes (bankStep (bankOf u f) h) q, bank-back (bankStep (bankOf u f) h) q)
+leaves-bank u f h p g (suc r) = (p, refl)
+
+leaves-gate : (u : List ℕ) (f : List Float) (h : GateHop) (i j : ℕ) → gateRefusal u f ≡ 0 → GoodGate (gateOf u f) → (r : ℕ)
+    → (gateRefusal (gateLeaves r (gateStep (gateOf u f) (h .db) (h .power)) u f .1) (gateLeaves r (gateStep (gateOf u f) (h .db) (h .power)) u f .2) ≡ 0)
+    × (gateOf (gateLeaves r (gateStep (gateOf u f) (h .db) (h .power)) u f .1) (gateLeaves r (gateStep (gateOf u f) (h .db) (h .power)) u f .2)
+    ≡ runGate (gateOf u f) (gateHop (gateLeaves r (gateStep (gateOf u f) (h .db) (h .power)) u f .0) (gate h i j)))
+leaves-gate u f h i j p g zero =
+    let q = good-gate-step (gateOf u f) (h .db) (h .power) g in
+    (gate-passes (gateStep (gateOf u f) (h .db) (h .power)) q, gate-back (gateStep (gateOf u f) (h .db) (h .power)) q)
+leaves-gate u f h i j p g (suc r) = (p, refl)
+
+pub left-is : (s : Stores) → Sound s → (c : Call) → Left s c
+unfolding step bankUpdate gateUpdate
+left-is s v (bank h) =
+    let b = leaves-bank (s .bu) (s .bf) h (v .bank-passes) (v .bank-good) (updateRefusal (s .bu) (s .bf) (h .db) (h .power)) in
+    record {
+      bank-passes = b .0;
+      bank-is = b .1;
+      gate-passes = v .gate-passes;
+      gate-is = sym (ap (runGate (gateIn s)) (no-gate (answer s (bank h)) h));
+    }
+left-is s v (gate h rise drop) =
+    let g = leaves-gate (s .gu) (s .gf) h (length rise) (length drop) (v .gate-passes) (v .gate-good)
+    (gateUpdateRefusal (s .bu) (s .bf) (s .gu) (s .gf) (length (h .db)) (length (h .power)) (length rise) (length drop)) in
+    record {
+      bank-passes = v .bank-passes;
+      bank-is = sym (ap (runBank (bankIn s)) (no-bank (answer s (gate h rise drop)) h _ _));
+      gate-passes = g .0;
+      gate-is = g .1;
+    }
+left-is s v (hold rise drop) =
+    record {
+      bank-passes = v .bank-passes;
+      bank-is = sym (ap (runBank (bankIn s)) (no-bank-hold (answer s (hold rise drop)) _ _));
+      gate-passes = v .gate-passes;
+      gate-is = sym (ap (runGate (gateIn s)) (no-gate-hold (answer s (hold rise drop)) _ _));
+    }
+
+pub sound-left : (s : Stores) (c : Call) → Sound s → Sound (left s c)
+sound-left s c v =
+    let l = left-is s v c in
+    record {
+      bank-passes = l .bank-passes;
+      bank-good = subst Good (sym (l .bank-is)) (good-run (bankHop (answer s c) (arguments c)) (bankIn s) (v .bank-good));
+      gate-passes = l .gate-passes;
+      gate-good = subst GoodGate (sym (l .gate-is)) (good-gate-run (gateHop (answer s c) (arguments c)) (gateIn s) (v .gate-good));
+    }
+
+-- ---- lists of calls
+
+pub sound-run : (cs : List Call) (s : Stores) → Sound s → Sound (leftBy s cs)
+sound-run [] s v = v
+sound-run (c ∷ cs) s v = sound-run cs (left s c) (sound-left s c v)
+
+bank-append : (xs ys : List Hop) (b : FloorBank) → runBank b (xs ++ ys) ≡ runBank (runBank b xs) ys
+bank-append [] ys b = refl
+bank-append (x ∷ xs) ys b = bank-append xs ys (bankStep b x)
+
+gate-append : (xs ys : List GateHop) (g : Gate) → runGate g (xs ++ ys) ≡ runGate (runGate g xs) ys
+gate-append [] ys g = refl
+gate-append (x ∷ xs) ys g = gate-append xs ys (gateStep g (x .db) (x .power))
+
+pub bank-run : (cs : List Call) (s : Stores) → Sound s → bankIn (leftBy s cs) ≡ runBank (bankIn s) (bankHops s cs)
+bank-run [] s v = refl
+bank-run (c ∷ cs) s v =
+    bank-run cs (left s c) (sound-left s c v)
+    ∙ ap (λ (b : FloorBank). runBank b (bankHops (left s c) cs)) (left-is s v c .bank-is)
+    ∙ sym (bank-append (bankHop (answer s c) (arguments c)) (bankHops (left s c) cs) (bankIn s))
+
+pub gate-run : (cs : List Call) (s : Stores) → Sound s → gateIn (leftBy s cs) ≡ runGate (gateIn s) (gateHops s cs)
+gate-run [] s v = refl
+gate-run (c ∷ cs) s v =
+    gate-run cs (left s c) (sound-left s c v)
+    ∙ ap (λ (g : Gate). runGate g (gateHops (left s c) cs)) (left-is s v c .gate-is)
+    ∙ sym (gate-append (gateHop (answer s c) (arguments c)) (gateHops (left s c) cs) (gateIn s))
+
+-- ---- what is refused
+
+-- with sound stores, by the bank's n and phase and the gate's n alone
+unfoldable pub refuse : ℕ → ℕ → ℕ → Arguments → ℕ
+refuse nb phase ng (bank h) = first (differ (length (h .db)) nb || differ (length (h .power)) nb) 5 (first (eqb phase 0 && garbled nb (h .db)) 6 0)
+refuse nb phase ng (gate h rise drop) =
+    orElse (first (differ nb ng) 8 0) (first (differ (length (h .db)) ng || differ (length (h .power)) ng || differ rise ng || differ drop ng) 5 0)
+refuse nb phase ng (hold rise drop) = orElse (first (differ nb ng) 8 0) (first (differ rise ng || differ drop ng) 5 0)
+
+leaves-answer : (r : ℕ) (b : FloorBank) (u : List ℕ) (f : List Float) → leaves r b u f .0 ≡ r
+leaves-answer zero b u f = refl
+leaves-answer (suc r) b u f = refl
+
+pub gate-answer : (r : ℕ) (g : Gate) (u : List ℕ) (f : List Float) → gateLeaves r g u f .0 ≡ r
+gate-answer zero g u f = refl
+gate-answer (suc r) g u f = refl
+
+pub answer-is : (s : Stores) → Sound s → (c : Call) → answer s c ≡ refuse (bankIn s .n) (bankIn s .phase) (gateIn s .n) (arguments c)
+unfolding step bankUpdate updateRefusal gateUpdate gateUpdateRefusal pairRefusal gateHold holdRefusal bankOf gateOf refuse
+answer-is s v (bank h) = leaves-answer (updateRefusal (s .bu) (s .bf) (h .db) (h .power)) _ (s .bu) (s .bf) ∙ rw (v .bank-passes)
+answer-is s v (gate h rise drop) =
+    gate-answer (gateUpdateRefusal (s .bu) (s .bf) (s .gu) (s .gf) (length (h .db)) (length (h .power)) (length rise) (length drop)) _ (s .gu) (s .gf)
+    ∙ rw (v .bank-passes, v .gate-passes)
+answer-is s v (hold rise drop) = rw (v .bank-passes, v .gate-passes)
+
+-- ---- the rises that an accepted call writes
+
+unfoldable pub judged : Stores → Arguments → List ℕ
+judged s (bank h) = []
+judged s (gate h rise drop) = riseBytes (gateStep (gateIn s) (h .db) (h .power)) (bankIn s)
+judged s (hold rise drop) = riseBytes (gateIn s) (bankIn s)
+
+pub rises-are : (s : Stores) (c : Call) → answer s c ≡ 0 → risesOf s c ≡ judged s (arguments c)
+unfolding risesOf judged step gateUpdate gateHold
+rises-are s (bank h) e = refl
+rises-are s (gate h rise drop) e =
+    ap (λ (r : ℕ). marksOf r (gateStep (gateIn s) (h .db) (h .power)) (bankIn s) rise drop .0)
+    (sym (gate-answer (gateUpdateRefusal (s .bu) (s .bf) (s .gu) (s .gf) (length (h .db)) (length (h .power)) (length rise) (length drop)) _ (s .gu) (s .gf)) ∙ e)
+rises-are s (hold rise drop) e = ap (λ (r : ℕ). marksOf r (gateIn s) (bankIn s) rise drop .0) e
+
+-- ---- two sets
+
+pub record Twins (s t : Stores) : Type 0 where
+  pub one : Sound s
+  pub other : Sound t
+  pub n : bankIn s .n ≡ bankIn t .n
+  pub phase : bankIn s .phase ≡ bankIn t .phase
+  pub gate-n : gateIn s .n ≡ gateIn t .n
+
+pub same-answer : (s t : Stores) → Twins s t → (c d : Call) → arguments c ≡ arguments d → answer s c ≡ answer t d
+same-answer s t w c d e =
+    answer-is s (w .one) c
+    ∙ (λ i. refuse (w .n i) (w .phase i) (w .gate-n i) (e i))
+    ∙ sym (answer-is t (w .other) d)
+
+bank-key : (b d : FloorBank) (hs : List Hop) → Good b → Good d → b .n ≡ d .n → b .phase ≡ d .phase
+    → (runBank b hs .n ≡ runBank d hs .n) × (runBank b hs .phase ≡ runBank d hs .phase)
+bank-key b d hs g q n p = (
+  n-run hs b ∙ n ∙ sym (n-run hs d),
+  phase-run hs b (b .phase) (omega (arith, g .phase)) ∙ ap (λ (i : ℕ). (i + length hs) % 15) p ∙ sym (phase-run hs d (d .phase) (omega (arith, q .phase))),
+)
+
+twins-left : (s t : Stores) → Twins s t → (c d : Call) → arguments c ≡ arguments d → Twins (left s c) (left t d)
+twins-left s t w c d e =
+    record {
+      one = sound-left s c (w .one);
+      other = sound-left t d (w .other);
+      n = rw (l .bank-is, r .bank-is, ← hops) (k .0);
+      phase = rw (l .bank-is, r .bank-is, ← hops) (k .1);
+      gate-n =
+          ap (λ (g : Gate). g .n) (l .gate-is)
+          ∙ make-run (gateHop (answer s c) (arguments c)) (gateIn s) .n
+          ∙ w .gate-n
+          ∙ sym (make-run (gateHop (answer t d) (arguments d)) (gateIn t) .n)
+          ∙ sym (ap (λ (g : Gate). g .n) (r .gate-is));
+    }
+  where
+    l : Left s c
+    l = left-is s (w .one) c
+
+    r : Left t d
+    r = left-is t (w .other) d
+
+    hops : bankHop (answer s c) (arguments c) ≡ bankHop (answer t d) (arguments d)
+    hops = ap₂ bankHop (same-answer s t w c d e) e
+
+    k : (runBank (bankIn s) (bankHop (answer s c) (arguments c)) .n ≡ runBank (bankIn t) (bankHop (answer s c) (arguments c)) .n)
+        × (runBank (bankIn s) (bankHop (answer s c) (arguments c)) .phase ≡ runBank (bankIn t) (bankHop (answer s c) (arguments c)) .phase)
+    k = bank-key (bankIn s) (bankIn t) (bankHop (answer s c) (arguments c)) (w .one .bank-good) (w .other .bank-good) (w .n) (w .phase)
+
+-- the same list after both
+pub record SameRun (s t : Stores) (cs ds : List Call) : Type 0 where
+  pub same-answers : answers s cs ≡ answers t ds
+  pub same-bank : bankHops s cs ≡ bankHops t ds
+  pub same-gate : gateHops s cs ≡ gateHops t ds
+  pub twins : Twins (leftBy s cs) (leftBy t ds)
+
+pub same-run : (cs ds : List Call) (s t : Stores) → Twins s t → map arguments cs ≡ map arguments ds → SameRun s t cs ds
+same-run [] [] s t w e = record { same-answers = refl; same-bank = refl; same-gate = refl; twins = w }
+same-run [] (d ∷ ds) s t w e = absurd (omega (arith, ap length e))
+same-run (c ∷ cs) [] s t w e = absurd (omega (arith, ap length e))
+same-run (c ∷ cs) (d ∷ ds) s t w e =
+    let e₀ : arguments c ≡ arguments d = cc in
+    let e₁ : map arguments cs ≡ map arguments ds = cc in
+    let a = same-answer s t w c d e₀ in
+    let r = same-run cs ds (left s c) (left t d) (twins-left s t w c d e₀) e₁ in
+    record {
+      same-answers = λ i. a i ∷ r .same-answers i;
+      same-bank = λ i. bankHop (a i) (e₀ i) ++ r .same-bank i;
+      same-gate = λ i. gateHop (a i) (e₀ i) ++ r .same-gate i;
+      twins = r .twins;
+    }

@@ -1,0 +1,89 @@
+-- What a sound channel's counts say of its entries, and the cases of the quartile. Assumes nothing.
+use mathlib.Core.Path.{_≡_, refl, sym, ap, _∙_}
+use mathlib.Core.List.{List}
+use Prim.Native.Nat.{ℕ, zero, suc, _+_, _-_, _/_, _<_, _≤_}
+use native.Mathlib.Omega.{arith}
+use lib.Dec.{eqb}
+use lib.ListN.{length, getD}
+use lib.Seq.{length-take-le, getD-take}
+use borrow.Author.Tests.{eq-eqb, ne-eqb}
+use Rattle.laws.specs.Lists.{occ}
+use Rattle.laws.proofs.Lists.{getD-part}
+use Rattle.laws.proofs.Tests.{by-test}
+use Rattle.model.specs.Numbers.{histMin}
+use Rattle.model.specs.Ring.{ChannelFloor, entries, centreOf, smallest, without, quartileOf, quartile, rawFloor, usableFloor, skipOf}
+use Rattle.model.specs.Stores.{chanOf}
+use Rattle.model.specs.Sound.{Sound}
+use Rattle.model.proofs.Rank.{under, under-zero, under-more, under-all, zeros-le, smallest-is, smallest-without}
+
+pub length-entries : {R K : ℕ} (c : ChannelFloor) → Sound R K c → length (entries c) ≡ c .filled
+length-entries c s = length-take-le (c .filled) (c .ring) (omega (arith, s .ring-length, s .filled-within))
+
+-- all entries are below K
+pub under-top : {R K : ℕ} (c : ChannelFloor) → Sound R K c → under K (entries c) ≡ c .filled
+under-top {R} {K} c s =
+    under-all K (entries c)
+    (λ i h.
+    let e = length-entries c s in
+    omega (arith, getD-take (c .filled) (c .ring) i 0 (omega arith), s .bins-below i (omega (arith, s .filled-within))))
+    ∙ length-entries c s
+
+-- a count as it stands in the store
+pub count-at : (l : List ℕ) (b : ℕ) → Sound 250 280 (chanOf l) → b < 280 → getD l (250 + b) 0 ≡ occ b (entries (chanOf l))
+count-at l b s h = sym (getD-part 250 280 l b 0 h) ∙ s .recount b h
+
+-- ---- the scan of the counts, before bin b: so many entries were passed, fewer than the rank
+
+pub record Scan (l : List ℕ) (rank passed b : ℕ) : Type 0 where
+  pub most : b ≤ 280
+  pub sum : passed ≡ under b l
+  pub short : passed < rank
+
+pub scan-begins : (l : List ℕ) (rank : ℕ) → 0 < rank → Scan l rank 0 0
+scan-begins l rank h = record { most = omega arith; sum = sym (under-zero l); short = h }
+
+pub scan-turns : {l : List ℕ} {rank passed b : ℕ} (x : ℕ) → Scan l rank passed b → x ≡ occ b l → b < 280 → passed + x < rank → Scan l rank (passed + x) (b + 1)
+scan-turns {l} {b = b} x s e h k = record { most = omega arith; sum = omega (arith, s .sum, under-more b l); short = k }
+
+pub scan-finds : {l : List ℕ} {rank passed b : ℕ} (x : ℕ) → Scan l rank passed b → x ≡ occ b l → rank ≤ passed + x → b ≡ smallest rank l
+scan-finds {l} {rank} {passed} {b} x s e h =
+    sym (smallest-is b rank l (omega (arith, s .short)) (omega (arith, s .sum, s .short)) (omega (arith, s .sum, under-more b l)))
+
+-- ---- the quartile, where w = filled was read: with nothing left, and with something
+
+pub skip-within : {R K : ℕ} (c : ChannelFloor) (s : ℕ) → Sound R K c → 0 < K → s ≤ getD (c .counts) 0 0 → s ≤ c .filled
+skip-within c s k p h = omega (arith, k .recount 0 p, zeros-le (entries c), length-entries c k)
+
+pub nothing-left : (c : ChannelFloor) (s w : ℕ) → w ≡ c .filled → w - s ≡ 0 → histMin ≡ quartile s c
+unfolding quartile
+nothing-left c s w e h = rw (ap (λ (k : ℕ). k - s) (sym e) ∙ h)
+
+of-some : (r : ℕ) (l : List ℕ) → 0 < r → centreOf (smallest ((r + 3) / 4) l) ≡ quartileOf r l
+of-some zero l h = absurd (omega arith)
+of-some (suc r) l h = refl
+
+pub some-left : {R K : ℕ} (c : ChannelFloor) (s w : ℕ) → Sound R K c → 0 < K → s ≤ getD (c .counts) 0 0 → w ≡ c .filled → 0 < w - s
+    → centreOf (smallest (s + (w - s + 3) / 4) (entries c)) ≡ quartile s c
+unfolding quartile
+some-left c s w k p h e n =
+    ap centreOf
+    (sym
+    (smallest-without s ((w - s + 3) / 4) (entries c) (omega (arith, k .recount 0 p)) (omega arith) (omega (arith, length-entries c k))))
+    ∙ of-some (w - s) (without s (entries c)) n
+    ∙ ap (λ (f : ℕ). quartileOf (f - s) (without s (entries c))) e
+
+-- ---- the usable floor: with nothing to skip, and with something
+
+none-raw : (c : ChannelFloor) → skipOf c ≡ 0 → rawFloor c ≡ usableFloor c
+unfolding rawFloor usableFloor
+none-raw c e = ap (λ (s : ℕ). quartile s c) (sym e)
+
+pub no-lead : (c : ChannelFloor) → c .lead ≡ 0 → rawFloor c ≡ usableFloor c
+no-lead c e = none-raw c (by-test (eqb (c .lead) (c .filled)) (λ t. rw t) (λ t. rw t e))
+
+pub all-lead : (c : ChannelFloor) → c .lead ≡ c .filled → rawFloor c ≡ usableFloor c
+all-lead c e = none-raw c (rw (eq-eqb (c .lead) (c .filled) e))
+
+pub some-lead : (c : ChannelFloor) → (c .lead ≡ c .filled → ⊥) → quartile (c .lead) c ≡ usableFloor c
+unfolding usableFloor
+some-lead c h = rw (ne-eqb (c .lead) (c .filled) h)

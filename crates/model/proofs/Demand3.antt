@@ -1,0 +1,172 @@
+-- Demand 3, proved. Assumes nothing.
+use mathlib.Core.Path.{_≡_, refl, sym, ap, ap₂, _∙_, subst, subst₂}
+use mathlib.Core.Bool.{true}
+use mathlib.Core.List.{List, map}
+use Prim.Native.Nat.{ℕ, _*_, _%_, _≤_}
+use native.Mathlib.Nat.{zero-add}
+use native.Mathlib.Omega.{arith}
+use lib.ListN.{getD}
+use lib.Ieee.{Float}
+use Rattle.model.specs.Numbers.{f0}
+use Rattle.model.specs.Bank.{FloorBank, freshBank}
+use Rattle.model.specs.Windows.{PowerLooks, stepLook}
+use Rattle.model.specs.Gate.{Gate, among, freshGate, sampleOf, gateStep}
+use Rattle.model.specs.GateCalls.{GateHop, absent, settingsOf}
+use Rattle.model.specs.Demand3.{Call, Arguments, bank, gate, hold, Stores, arguments, answer, leftBy, bankHops, gateHops, bankUpdates, gateUpdates, risesOf, bankIn, Making, made, Made, SameFloors, Enough, Same, Demand3}
+use Rattle.model.specs.Sets.{gateIn, Sound}
+use Rattle.model.proofs.SettledFloors.{runBank, n-run, phase-run, Alike, alike-start, settles, settled-effective}
+use Rattle.model.proofs.Rises.{runGate, SameMake, make-run, started-run, looks-forget, rises-same}
+use Rattle.model.proofs.Calls.{sound-run, bank-run, gate-run, Twins, same-answer, SameRun, same-run, judged, rises-are}
+use Rattle.model.proofs.Made.{settings, stored-absent, lengths-good, bank-made, gate-made, sound-made}
+
+-- ---- a set that has heard a list
+
+module _ (k : Making) (p : Stores) (d : Made k p) where
+  bank-heard : (cs : List Call) → bankIn (leftBy (made k p) cs) ≡ runBank (freshBank (k .n)) (bankHops (made k p) cs)
+  bank-heard cs = bank-run cs (made k p) (sound-made k p d) ∙ ap (λ (b : FloorBank). runBank b (bankHops (made k p) cs)) (bank-made k p d)
+
+  gate-heard : (cs : List Call) → gateIn (leftBy (made k p) cs) ≡ runGate (freshGate (settings k)) (gateHops (made k p) cs)
+  gate-heard cs = gate-run cs (made k p) (sound-made k p d) ∙ ap (λ (x : Gate). runGate x (gateHops (made k p) cs)) (gate-made k p d)
+
+  n-heard : (cs : List Call) → bankIn (leftBy (made k p) cs) .n ≡ k .n
+  n-heard cs = ap (λ (b : FloorBank). b .n) (bank-heard cs) ∙ n-run (bankHops (made k p) cs) (freshBank (k .n)) ∙ (unfold freshBank in refl)
+
+  phase-heard : (cs : List Call) → bankIn (leftBy (made k p) cs) .phase ≡ bankUpdates (made k p) cs % 15
+  phase-heard cs =
+      ap (λ (b : FloorBank). b .phase) (bank-heard cs)
+      ∙ phase-run (bankHops (made k p) cs) (freshBank (k .n)) 0 (unfold freshBank in refl)
+      ∙ ap (λ (i : ℕ). i % 15) (zero-add (bankUpdates (made k p) cs))
+
+  make-heard : (cs : List Call) → SameMake (gateIn (leftBy (made k p) cs)) (freshGate (settings k))
+  make-heard cs = subst (λ (x : Gate). SameMake x (freshGate (settings k))) (sym (gate-heard cs)) (make-run (gateHops (made k p) cs) (freshGate (settings k)))
+
+  heard : (cs : List Call) → Sound (leftBy (made k p) cs)
+  heard cs = sound-run cs (made k p) (sound-made k p d)
+
+make-join : (a b c : Gate) → SameMake a c → SameMake b c → SameMake a b
+make-join a b c x y = record { n = x .n ∙ sym (y .n); on = x .on ∙ sym (y .on); early = x .early ∙ sym (y .early) }
+
+-- ---- the rises of the next call
+
+record Ready (s t : Stores) : Type 0 where
+  make : SameMake (gateIn s) (gateIn t)
+  early : gateIn s .early ≡ 65535
+  looks : gateIn s .looks ≡ gateIn t .looks
+  started : gateIn s .started ≡ gateIn t .started
+  rise : bankIn s .rise ≡ bankIn t .rise
+
+judged-same : (s t : Stores) → Ready s t → (a : Arguments) → judged s a ≡ judged t a
+unfolding judged gateStep
+judged-same s t r (bank h) = refl
+judged-same s t r (gate h i j) =
+    rises-same (gateStep (gateIn s) (h .db) (h .power)) (gateStep (gateIn t) (h .db) (h .power)) (bankIn s) (bankIn t)
+    (record { n = r .make .n; on = r .make .on; early = r .make .early }) (r .early)
+    (ap₂ (λ (n : ℕ) (l : List PowerLooks). map (stepLook n (sampleOf (h .power))) l) (r .make .n) (r .looks)) refl (r .rise)
+judged-same s t r (hold i j) = rises-same (gateIn s) (gateIn t) (bankIn s) (bankIn t) (r .make) (r .early) (r .looks) (r .started) (r .rise)
+
+next-rises : (s t : Stores) → Twins s t → Ready s t → (c d : Call) → arguments c ≡ arguments d → answer s c ≡ 0 → risesOf s c ≡ risesOf t d
+next-rises s t w r c d e z =
+    rises-are s c z ∙ judged-same s t r (arguments c) ∙ ap (judged t) e ∙ sym (rises-are t d (sym (same-answer s t w c d e) ∙ z))
+
+-- ---- demand 3
+
+module _ (k : Making) (p q : Stores) (mp : Made k p) (mq : Made k q) (xs ys : List Call)
+    (eb : bankUpdates (made k p) xs % 15 ≡ bankUpdates (made k q) ys % 15)
+    (eg : (m : ℕ) → among m (k .lengths) ≡ true → gateUpdates (made k p) xs % (2 * m) ≡ gateUpdates (made k q) ys % (2 * m))
+    (fs gs : List Call) (e : map arguments fs ≡ map arguments gs)
+  where
+    abbrev s : Stores
+    s = leftBy (made k p) xs
+
+    abbrev t : Stores
+    t = leftBy (made k q) ys
+
+    twins : Twins s t
+    twins =
+        record {
+          one = heard k p mp xs;
+          other = heard k q mq ys;
+          n = n-heard k p mp xs ∙ sym (n-heard k q mq ys);
+          phase = phase-heard k p mp xs ∙ eb ∙ sym (phase-heard k q mq ys);
+          gate-n = make-heard k p mp xs .n ∙ sym (make-heard k q mq ys .n);
+        }
+
+    run : SameRun s t fs gs
+    run = same-run fs gs s t twins e
+
+    -- the bank
+    bank-s : bankIn (leftBy s fs) ≡ runBank (bankIn s) (bankHops s fs)
+    bank-s = bank-run fs s (twins .one)
+
+    bank-t : bankIn (leftBy t gs) ≡ runBank (bankIn t) (bankHops s fs)
+    bank-t = bank-run gs t (twins .other) ∙ ap (runBank (bankIn t)) (sym (run .same-bank))
+
+    settled : Enough (k .n) (bankUpdates (made k p) xs) s fs → (i : ℕ) × (250 ≤ i) × Alike i (bankIn (leftBy s fs)) (bankIn (leftBy t gs))
+    settled h =
+        let w = settles (bankHops s fs) (bankUpdates (made k p) xs) 0 (bankIn s) (bankIn t)
+        (alike-start (bankIn s) (bankIn t) (twins .one .bank-good) (twins .other .bank-good) (twins .n) (twins .phase)) (phase-heard k p mp xs)
+        (λ z. rw (n-heard k p mp xs) (h .slow-hop)) (omega (arith, h .bank-updates)) in
+        (w .0, w .1, subst₂ (λ (b d : FloorBank). Alike (w .0) b d) (sym bank-s) (sym bank-t) (w .2))
+
+    n-after : bankIn (leftBy s fs) .n ≡ k .n
+    n-after = ap (λ (b : FloorBank). b .n) bank-s ∙ n-run (bankHops s fs) (bankIn s) ∙ n-heard k p mp xs
+
+    floors : Enough (k .n) (bankUpdates (made k p) xs) s fs → SameFloors (k .n) (leftBy s fs) (leftBy t gs)
+    floors h =
+        let w = settled h in
+        let f = w .2 .both .floors (w .1) in
+        record {
+          raw = λ i l. ap (λ (r : List Float). getD r i f0) (f .raw);
+          effective = λ i l. settled-effective (w .0) (w .1) (bankIn (leftBy s fs)) (bankIn (leftBy t gs)) (w .2) i (omega (arith, n-after));
+          rise = λ i l. ap (λ (r : List Float). getD r i f0) (f .rise);
+        }
+
+    -- the gate
+    gate-s : gateIn (leftBy s fs) ≡ runGate (runGate (freshGate (settings k)) (gateHops (made k p) xs)) (gateHops s fs)
+    gate-s = gate-run fs s (twins .one) ∙ ap (λ (x : Gate). runGate x (gateHops s fs)) (gate-heard k p mp xs)
+
+    gate-t : gateIn (leftBy t gs) ≡ runGate (runGate (freshGate (settings k)) (gateHops (made k q) ys)) (gateHops s fs)
+    gate-t = gate-run gs t (twins .other) ∙ ap₂ runGate (gate-heard k q mq ys) (sym (run .same-gate))
+
+    make-after : (hs : List GateHop) (x y : Gate) → x ≡ runGate y hs → SameMake y (freshGate (settings k)) → SameMake x (freshGate (settings k))
+    make-after hs x y q m =
+        let r = make-run hs y in
+        subst (λ (z : Gate). SameMake z (freshGate (settings k))) (sym q)
+        (record { n = r .n ∙ m .n; on = r .on ∙ m .on; early = r .early ∙ m .early })
+
+    make-s : SameMake (gateIn (leftBy s fs)) (freshGate (settings k))
+    make-s = make-after (gateHops s fs) (gateIn (leftBy s fs)) (gateIn s) (gate-run fs s (twins .one)) (make-heard k p mp xs)
+
+    make-t : SameMake (gateIn (leftBy t gs)) (freshGate (settings k))
+    make-t = make-after (gateHops t gs) (gateIn (leftBy t gs)) (gateIn t) (gate-run gs t (twins .other)) (make-heard k q mq ys)
+
+    ready : Enough (k .n) (bankUpdates (made k p) xs) s fs → absent (k .early) ≡ true → Ready (leftBy s fs) (leftBy t gs)
+    ready h a =
+        let w = settled h in
+        record {
+          make = make-join (gateIn (leftBy s fs)) (gateIn (leftBy t gs)) (freshGate (settings k)) make-s make-t;
+          early = make-s .early ∙ (unfold freshGate settingsOf in stored-absent (k .early) a);
+          looks =
+              ap (λ (x : Gate). x .looks) gate-s
+              ∙ looks-forget (settings k) (gateHops (made k p) xs) (gateHops (made k q) ys) (gateHops s fs) (unfold settingsOf in lengths-good k p mp)
+              (unfold settingsOf in eg) (omega (arith, h .gate-updates))
+              ∙ sym (ap (λ (x : Gate). x .looks) gate-t);
+          started =
+              ap (λ (x : Gate). x .started) gate-s
+              ∙ started-run (gateHops s fs) (runGate (freshGate (settings k)) (gateHops (made k p) xs)) (omega (arith, h .gate-updates))
+              ∙ sym (started-run (gateHops s fs) (runGate (freshGate (settings k)) (gateHops (made k q) ys)) (omega (arith, h .gate-updates)))
+              ∙ sym (ap (λ (x : Gate). x .started) gate-t);
+          rise = w .2 .both .floors (w .1) .rise;
+        }
+
+    whole : Same k (bankUpdates (made k p) xs) s t fs gs
+    whole =
+        record {
+          refusals = run .same-answers;
+          next-refusal = same-answer (leftBy s fs) (leftBy t gs) (run .twins);
+          floors = floors;
+          rises = λ h a. next-rises (leftBy s fs) (leftBy t gs) (run .twins) (ready h a);
+        }
+
+pub demand-3 : Demand3
+demand-3 = whole

@@ -1,0 +1,187 @@
+-- Demand 3, stated: "Nobody who can choose what a set heard earlier can change its floors afterwards, nor its rises without early rise."
+-- The words in quotes are the customer's and document 01's. The proof is `demand-3` in proofs/Demand3.antt.
+use mathlib.Core.Path.{_≡_}
+use mathlib.Core.Bool.{Bool, true, cond}
+use mathlib.Core.List.{List, [], _∷_, _++_, map}
+use Prim.Native.Nat.{ℕ, zero, suc, _*_, _%_, _≤_, _<_}
+use lib.Dec.{eqb}
+use lib.ListN.{length}
+use lib.IntN.{ℤ}
+use lib.Ieee.{Float, le}
+use Rattle.laws.specs.Tests.{allBelow}
+use Rattle.model.specs.Numbers.{histMin}
+use Rattle.model.specs.Bank.{FloorBank, Hop, blocks, block, median}
+use Rattle.model.specs.Readings.{rawAt, effectiveAt, riseAt}
+use Rattle.model.specs.Stores.{bankOf}
+use Rattle.model.specs.Calls.{bankNew, bankUpdate}
+use Rattle.model.specs.Gate.{among}
+use Rattle.model.specs.GateCalls.{GateHop, absent, gateNew, gateUpdate, gateHold}
+
+-- ---- calls
+
+-- "bank updates, gate updates and holds, refused ones included": slices of any lengths. The two lists of a gate update and of a hold are what
+-- its output slices, rise and drop, held before
+pub data Call : Type 0 where
+  bank : Hop → Call
+  gate : GateHop → List ℕ → List ℕ → Call
+  hold : List ℕ → List ℕ → Call
+
+-- the lent stores: the bank's and the gate's
+pub record Stores : Type 0 where
+  pub bu : List ℕ
+  pub bf : List Float
+  pub gu : List ℕ
+  pub gf : List Float
+
+-- what a call answers, 0 or its refusal, and the stores that it leaves
+unfoldable pub step : Stores → Call → ℕ × Stores
+step s (bank h) = let a = bankUpdate (s .bu) (s .bf) h in (a .0, record { bu = a .1; bf = a .2; gu = s .gu; gf = s .gf })
+step s (gate h rise drop) =
+    let a = gateUpdate (s .bu) (s .bf) (s .gu) (s .gf) h rise drop in
+    (a .0, record { bu = s .bu; bf = s .bf; gu = a .1; gf = a .2 })
+step s (hold rise drop) = (gateHold (s .bu) (s .bf) (s .gu) (s .gf) rise drop .0, s)
+
+abbrev pub answer : Stores → Call → ℕ
+answer s c = step s c .0
+
+abbrev pub left : Stores → Call → Stores
+left s c = step s c .1
+
+-- what the output slice rise holds after a gate update or a hold
+unfoldable pub risesOf : Stores → Call → List ℕ
+risesOf s (bank h) = []
+risesOf s (gate h rise drop) = gateUpdate (s .bu) (s .bf) (s .gu) (s .gf) h rise drop .3
+risesOf s (hold rise drop) = gateHold (s .bu) (s .bf) (s .gu) (s .gf) rise drop .1
+
+-- a call's arguments "apart from the lent stores and what the outputs held before"
+pub data Arguments : Type 0 where
+  bank : Hop → Arguments
+  gate : GateHop → ℕ → ℕ → Arguments
+  hold : ℕ → ℕ → Arguments
+
+abbrev pub arguments : Call → Arguments
+arguments (bank h) = bank h
+arguments (gate h rise drop) = gate h (length rise) (length drop)
+arguments (hold rise drop) = hold (length rise) (length drop)
+
+-- ---- lists of calls: "each call is lent the bank and gate as the call before left them"
+
+abbrev pub leftBy : Stores → List Call → Stores
+leftBy s [] = s
+leftBy s (c ∷ cs) = leftBy (left s c) cs
+
+abbrev pub answers : Stores → List Call → List ℕ
+answers s [] = []
+answers s (c ∷ cs) = answer s c ∷ answers (left s c) cs
+
+-- "a call is accepted if it isn't refused": the hop of an accepted bank update, and of an accepted gate update
+abbrev pub bankHop : ℕ → Arguments → List Hop
+bankHop zero (bank h) = h ∷ []
+bankHop zero (gate h rise drop) = []
+bankHop zero (hold rise drop) = []
+bankHop (suc r) c = []
+
+abbrev pub gateHop : ℕ → Arguments → List GateHop
+gateHop zero (bank h) = []
+gateHop zero (gate h rise drop) = h ∷ []
+gateHop zero (hold rise drop) = []
+gateHop (suc r) c = []
+
+abbrev pub bankHops : Stores → List Call → List Hop
+bankHops s [] = []
+bankHops s (c ∷ cs) = bankHop (answer s c) (arguments c) ++ bankHops (left s c) cs
+
+abbrev pub gateHops : Stores → List Call → List GateHop
+gateHops s [] = []
+gateHops s (c ∷ cs) = gateHop (answer s c) (arguments c) ++ gateHops (left s c) cs
+
+-- the numbers of accepted updates
+abbrev pub bankUpdates : Stores → List Call → ℕ
+bankUpdates s cs = length (bankHops s cs)
+
+abbrev pub gateUpdates : Stores → List Call → ℕ
+gateUpdates s cs = length (gateHops s cs)
+
+-- ---- the slow hop
+
+-- "a median of -140 dB or more in each block"
+unfoldable pub loud : ℕ → List Float → Bool
+loud n db = allBelow (blocks n) (λ i. le histMin (median (block i db)))
+
+-- The first slow hop of these is loud. "A slow hop there is a bank update before which its bank, since fresh, has accepted a multiple of 15
+-- bank updates, 0 included": a is how many were accepted before these
+abbrev pub firstSlowLoud : ℕ → ℕ → List Hop → Bool
+firstSlowLoud n a [] = true
+firstSlowLoud n a (h ∷ hs) = cond (eqb (a % 15) 0) (loud n (h .db)) (firstSlowLoud n (suc a) hs)
+
+-- ---- a fresh set
+
+-- "equal settings are the same n, window lengths, on, off and early", as making takes them; the bank's n and the gate's may differ
+pub record Making : Type 0 where
+  pub n : ℕ
+  pub gate-n : ℕ
+  pub on : ℤ
+  pub off : ℤ
+  pub early : ℤ
+  pub lengths : List ℕ
+
+-- what making answers and leaves, of lent stores that hold anything
+unfoldable pub newBank : Making → Stores → ℕ × List ℕ × List Float
+newBank k s = bankNew (s .bu) (s .bf) (k .n)
+
+unfoldable pub newGate : Making → Stores → ℕ × List ℕ × List Float
+newGate k s = gateNew (s .gu) (s .gf) (k .gate-n) (k .on) (k .off) (k .early) (k .lengths)
+
+abbrev pub made : Making → Stores → Stores
+made k s = record { bu = newBank k s .1; bf = newBank k s .2; gu = newGate k s .1; gf = newGate k s .2 }
+
+-- neither is refused
+pub record Made (k : Making) (s : Stores) : Type 0 where
+  pub bank : newBank k s .0 ≡ 0
+  pub gate : newGate k s .0 ≡ 0
+
+-- ---- the claim
+
+abbrev pub bankIn : Stores → FloorBank
+bankIn s = bankOf (s .bu) (s .bf)
+
+-- "every raw, effective and rise floor is equal for both"
+pub record SameFloors (n : ℕ) (s t : Stores) : Type 0 where
+  pub raw : (k : ℕ) → k < n → rawAt (bankIn s) k ≡ rawAt (bankIn t) k
+  pub effective : (k : ℕ) → k < n → effectiveAt (bankIn s) k ≡ effectiveAt (bankIn t) k
+  pub rise : (k : ℕ) → k < n → riseAt (bankIn s) k ≡ riseAt (bankIn t) k
+
+-- what is asked of a further list fs after s, a bank updates having been accepted before it
+pub record Enough (n a : ℕ) (s : Stores) (fs : List Call) : Type 0 where
+  -- "if it has at least 3,750 accepted bank updates"
+  pub bank-updates : 3750 ≤ bankUpdates s fs
+  -- "and 1,500 accepted gate updates"
+  pub gate-updates : 1500 ≤ gateUpdates s fs
+  -- "and its first accepted slow hop has a median of -140 dB or more in each block"
+  pub slow-hop : firstSlowLoud n a (bankHops s fs) ≡ true
+
+-- the same from here on, of a set that is in s and one that is in t
+pub record Same (k : Making) (a : ℕ) (s t : Stores) (fs gs : List Call) : Type 0 where
+  -- "the same of its calls are refused, with the same refusals"
+  pub refusals : answers s fs ≡ answers t gs
+  -- "that next call gets the same refusal"
+  pub next-refusal : (c d : Call) → arguments c ≡ arguments d → answer (leftBy s fs) c ≡ answer (leftBy t gs) d
+  -- "then after it every raw, effective and rise floor is equal for both"
+  pub floors : Enough (k .n) a s fs → SameFloors (k .n) (leftBy s fs) (leftBy t gs)
+  -- "where early rise is absent, the rises of the gate update or hold that comes next are equal too"
+  pub rises : Enough (k .n) a s fs → absent (k .early) ≡ true → (c d : Call) → arguments c ≡ arguments d → answer (leftBy s fs) c ≡ 0
+      → risesOf (leftBy s fs) c ≡ risesOf (leftBy t gs) d
+
+abbrev pub Demand3 : Type 0
+Demand3 =
+    -- "each from a fresh bank and gate of equal settings"
+    (k : Making) (p q : Stores) → Made k p → Made k q
+    -- "take any two lists of bank updates, gate updates and holds"
+    → (xs ys : List Call)
+    -- "whose numbers of accepted bank updates are equal modulo 15"
+    → bankUpdates (made k p) xs % 15 ≡ bankUpdates (made k q) ys % 15
+    -- "and of accepted gate updates modulo twice every window length"
+    → ((m : ℕ) → among m (k .lengths) ≡ true → gateUpdates (made k p) xs % (2 * m) ≡ gateUpdates (made k q) ys % (2 * m))
+    -- "whatever further list of these calls follows both": with the same arguments
+    → (fs gs : List Call) → map arguments fs ≡ map arguments gs
+    → Same k (bankUpdates (made k p) xs) (leftBy (made k p) xs) (leftBy (made k q) ys) fs gs

@@ -1,0 +1,35 @@
+-- Each exported call does what demand 3's step says: from the equation that is its contract, `step`'s answer and stores, and the rises.
+-- In the contracts r, u, f, rise and drop are the answer and what the lent slices hold at exit.
+use mathlib.Core.Path.{_≡_, ap}
+use mathlib.Core.List.{List}
+use Prim.Native.Nat.{ℕ}
+use lib.Ieee.{Float}
+use Rattle.model.specs.Bank.{Hop}
+use Rattle.model.specs.Calls.{bankUpdate}
+use Rattle.model.specs.GateCalls.{GateHop, gateUpdate, gateHold}
+use Rattle.model.specs.Demand3.{Call, bank, gate, hold, Stores, step, risesOf}
+
+-- wolfcloak_bank_update, wolfcloak_bank_update_holding_reference
+pub bank-does : (s : Stores) (h : Hop) (r : ℕ) (u : List ℕ) (f : List Float) → (r, u, f) ≡ bankUpdate (s .bu) (s .bf) h
+    → (r, record { bu = u; bf = f; gu = s .gu; gf = s .gf }) ≡ step s (bank h)
+unfolding step
+bank-does s h r u f e = ap (λ (a : ℕ × List ℕ × List Float). (a .0, record { bu = a .1; bf = a .2; gu = s .gu; gf = s .gf })) e
+
+-- wolfcloak_gate_update
+pub gate-does : (s : Stores) (h : GateHop) (rise drop rise′ drop′ : List ℕ) (r : ℕ) (u : List ℕ) (f : List Float)
+    → (r, u, f, rise′, drop′) ≡ gateUpdate (s .bu) (s .bf) (s .gu) (s .gf) h rise drop
+    → ((r, record { bu = s .bu; bf = s .bf; gu = u; gf = f }) ≡ step s (gate h rise drop)) × (rise′ ≡ risesOf s (gate h rise drop))
+unfolding step risesOf
+gate-does s h rise drop rise′ drop′ r u f e = (
+  ap (λ (a : ℕ × List ℕ × List Float × List ℕ × List ℕ). (a .0, record { bu = s .bu; bf = s .bf; gu = a .1; gf = a .2 })) e,
+  ap (λ (a : ℕ × List ℕ × List Float × List ℕ × List ℕ). a .3) e,
+)
+
+-- wolfcloak_gate_hold, which is lent the gate's stores to read only
+pub hold-does : (s : Stores) (rise drop rise′ drop′ : List ℕ) (r : ℕ) → (r, rise′, drop′) ≡ gateHold (s .bu) (s .bf) (s .gu) (s .gf) rise drop
+    → ((r, s) ≡ step s (hold rise drop)) × (rise′ ≡ risesOf s (hold rise drop))
+unfolding step risesOf
+hold-does s rise drop rise′ drop′ r e = (
+  ap (λ (a : ℕ × List ℕ × List ℕ). (a .0, s)) e,
+  ap (λ (a : ℕ × List ℕ × List ℕ). a .1) e,
+)

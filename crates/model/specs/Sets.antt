@@ -1,0 +1,30 @@
+-- Two more claims on sets that have heard a list of calls: their stores are sound, and the conditions of demand 3 can be met.
+-- The proofs are `stay-sound` and `can-be-met` in proofs/Sets.antt.
+use mathlib.Core.Path.{_≡_}
+use mathlib.Core.Bool.{true}
+use mathlib.Core.List.{List}
+use Rattle.model.specs.Refusals.{bankRefusal}
+use Rattle.model.specs.Gate.{Gate}
+use Rattle.model.specs.GateStores.{gateOf}
+use Rattle.model.specs.GateCalls.{absent, gateRefusal}
+use Rattle.model.specs.GoodBank.{Good}
+use Rattle.model.specs.GoodGate.{GoodGate}
+use Rattle.model.specs.Demand3.{Call, Stores, leftBy, bankIn, Making, made, Made, Enough}
+
+abbrev pub gateIn : Stores → Gate
+gateIn s = gateOf (s .gu) (s .gf)
+
+-- neither store is refused, with 2 or with 9, and both hold what is sound
+pub record Sound (s : Stores) : Type 0 where
+  pub bank-passes : bankRefusal (s .bu) (s .bf) ≡ 0
+  pub bank-good : Good (bankIn s)
+  pub gate-passes : gateRefusal (s .gu) (s .gf) ≡ 0
+  pub gate-good : GoodGate (gateIn s)
+
+-- whatever the calls, refused or not, a set that was fresh is sound
+abbrev pub StaySound : Type 0
+StaySound = (k : Making) (p : Stores) → Made k p → (cs : List Call) → Sound (leftBy (made k p) cs)
+
+-- there is a set, early rise absent, and a list of calls after which demand 3 speaks of its floors and its rises
+abbrev pub CanBeMet : Type 0
+CanBeMet = (k : Making) × (p : Stores) × (fs : List Call) × Made k p × (absent (k .early) ≡ true) × Enough (k .n) 0 (made k p) fs
