@@ -1,6 +1,4 @@
 // Document 01, "Block and bank step": one bank update over the two lent stores.
-pub mod floors;
-pub mod pushes;
 
 ghost use mathlib.Core.Path.{_≡_};
 ghost use mathlib.Core.Bool.{false};
@@ -9,7 +7,7 @@ ghost use Rattle.model.specs.Bank.{hop, bankStep};
 ghost use Rattle.model.specs.Stores.{bankF, bankOf};
 ghost use Rattle.model.specs.Calls.{bankUpdate};
 ghost use Rattle.model.specs.GoodBank.{Ready};
-ghost use Rattle.bank.specs.Steps.{Holds, Headed, smoothStep, floorStep, advanced};
+ghost use Rattle.bank_steps.specs.Steps.{Holds, Headed, smoothStep, floorStep, advanced};
 
 // (a) The smoothed powers: the first hop ever starts them, a held one leaves them.
 fn smooth_all(bank_f: &mut [f64], bank: &[u16], power: &[f32], hold_reference: bool)
@@ -20,13 +18,13 @@ fn smooth_all(bank_f: &mut [f64], bank: &[u16], power: &[f32], hold_reference: b
     let a = 2 * n;
     let e = a + n;
     if bank[2] == 0 {
-        block::powers::start_powers(&mut bank_f[a..e], power);
+        powers::start_powers(&mut bank_f[a..e], power);
         return;
     }
     if hold_reference {
         return;
     }
-    block::powers::smooth_powers(&mut bank_f[a..e], power);
+    powers::smooth_powers(&mut bank_f[a..e], power);
 }
 
 // (b) A slow hop: seeds, pushes, and the floors that follow from them.
@@ -35,12 +33,12 @@ fn floor_hop(bank: &mut [u16], bank_f: &mut [f64], power_db: &[f64])
     ensures { λ _. ⌜ Holds (floorStep (now («power_db» .entry)) (bankOf (now (bank .entry)) (now («bank_f» .entry)))) (now (bank .exit)) (now («bank_f» .exit)) ⌝ }
 {
     let n = power_db.len();
-    pushes::take_seeds(bank, bank_f, power_db);
-    pushes::push_all(bank, bank_f, power_db);
-    floors::raw_floors(bank_f, bank, n);
-    floors::usable_floors(bank_f, bank, n);
-    floors::block_floors(bank_f, bank, n);
-    floors::rise_floors(bank_f, bank, n);
+    bank_pushes::take_seeds(bank, bank_f, power_db);
+    bank_pushes::push_all(bank, bank_f, power_db);
+    bank_floors::raw_floors(bank_f, bank, n);
+    bank_floors::usable_floors(bank_f, bank, n);
+    bank_floors::block_floors(bank_f, bank, n);
+    bank_floors::rise_floors(bank_f, bank, n);
 }
 
 // (c) The phase advances, and the bank has started.

@@ -1,6 +1,4 @@
 // Document 01, "Block and bank step": what it does with numbers and with one list.
-pub mod median;
-pub mod powers;
 pub mod seeds;
 
 ghost use mathlib.Core.Path.{_≡_};

@@ -40,7 +40,7 @@ pub fn seed_blocks(seeds: &mut [u16], sums: &mut [f64], power_db: &[f64])
 {
     let mut i: usize = 0;
     while i < seeds.len() {
-        let med = crate::median::block_median(power_db, i);
+        let med = median::block_median(power_db, i);
         sums[i] = sum_after(seeds[i], sums[i], med);
         seeds[i] = pushes_after(seeds[i], med);
         i += 1;

@@ -19,12 +19,12 @@ use Rattle.model.specs.GateStores.{gateOf}
 use Rattle.model.specs.GateCalls.{GateHop, gateRefusal, pairRefusal, gateUpdateRefusal, holdRefusal, gateLeaves, marksOf, gateUpdate, gateHold}
 use Rattle.model.proofs.GoodBanks.{ready}
 use Rattle.model.specs.GoodGate.{GoodGate, GateReady}
-use Rattle.gate_store.specs.Checks.{smoothedRefusal, earlyRefusal}
+use Rattle.gate_sound.specs.Checks.{smoothedRefusal, earlyRefusal}
 use Rattle.model.proofs.GoodGates.{gate-ready, n-of}
 use Rattle.model.proofs.FreshGates.{good-gate-step}
-use Rattle.gate_store.proofs.Looks.{held-ready, held-is}
-use Rattle.gate.specs.Paired.{Paired, Marked}
-use Rattle.gate.specs.Steps.{Holds}
+use Rattle.gate_step.proofs.Looks.{held-ready, held-is}
+use Rattle.gate_cursors.specs.Paired.{Paired, Marked}
+use Rattle.gate_step.specs.Steps.{Holds}
 
 -- ---- what a call that is not refused has shown
 

@@ -1,7 +1,4 @@
 // Document 01, "Windows, ladder, gate": the gate's update, its hold and its readings over the four lent stores.
-pub mod judge;
-pub mod step;
-pub mod triples;
 
 ghost use mathlib.Core.Path.{_≡_};
 ghost use mathlib.Core.Bool.{not, _&&_};
@@ -15,7 +12,7 @@ ghost use Rattle.model.specs.Stores.{bankOf};
 ghost use Rattle.model.specs.Gate.{earlyRise};
 ghost use Rattle.model.specs.GateStores.{gateOf};
 ghost use Rattle.model.specs.GateCalls.{gateUpdate, gateHold, smoothedReading, earlyReading};
-ghost use Rattle.gate.specs.Paired.{Paired};
+ghost use Rattle.gate_cursors.specs.Paired.{Paired};
 
 // One hop's dB and linear power of each channel: the gate steps, and is then judged.
 pub fn gate_update(
@@ -43,8 +40,8 @@ pub fn gate_update(
     if refusal != 0 {
         return refusal;
     }
-    step::step(gate, gate_f, power_db, power);
-    judge::judge(bank, bank_f, gate, gate_f, rise, drop);
+    gate_step::step(gate, gate_f, power_db, power);
+    gate_marks::judge(bank, bank_f, gate, gate_f, rise, drop);
     0
 }
 
@@ -63,7 +60,7 @@ pub fn gate_hold(
     if refusal != 0 {
         return refusal;
     }
-    judge::judge(bank, bank_f, gate, gate_f, rise, drop);
+    gate_marks::judge(bank, bank_f, gate, gate_f, rise, drop);
     0
 }
 
@@ -87,8 +84,8 @@ fn early_mark(bank: &[u16], bank_f: &[f64], gate: &[u16], gate_f: &[f64], k: usi
     if gate[1] == 0 {
         return 0.0;
     }
-    let effective = readings::effective_at(bank, bank_f, k);
-    if judge::early_rise(gate[4], gate_f[k], effective) {
+    let effective = channel_readings::effective_at(bank, bank_f, k);
+    if gate_marks::early_rise(gate[4], gate_f[k], effective) {
         return 1.0;
     }
     0.0

@@ -1,30 +1,8 @@
 // Document 01, "Stores", the gate's half: the test of a lent gate, the refusals in their order, and a fresh gate.
-pub mod lengths;
-pub mod making;
-pub mod sound;
 
 ghost use mathlib.Core.Path.{_≡_};
-ghost use Rattle.model.specs.GateCalls.{gateFLenFor, gateRefusal, pairRefusal, gateUpdateRefusal, holdRefusal};
-ghost use Rattle.gate_store.specs.Checks.{twoLong, fourLong, channelRefusal, smoothedRefusal, earlyRefusal};
-
-fn wide(x: u16) -> usize
-    ensures { λ r. ⌜ r ≡ x ⌝ }
-{
-    x as usize
-}
-
-// How many f64 a gate of n channels and these lengths takes; 0 where making refuses them.
-pub fn gate_f_len(n: usize, lengths: &[u16]) -> usize
-    ensures { λ r. ⌜ r ≡ gateFLenFor n (now (lengths .entry)) ⌝ }
-{
-    if !stores::in_band(n) {
-        return 0;
-    }
-    if !lengths::lengths_good(lengths) {
-        return 0;
-    }
-    lengths::floats_for(n, lengths)
-}
+ghost use Rattle.model.specs.GateCalls.{gateRefusal, pairRefusal, gateUpdateRefusal, holdRefusal};
+ghost use Rattle.gate_sound.specs.Checks.{twoLong, fourLong, channelRefusal, smoothedRefusal, earlyRefusal};
 
 // Whether the lent stores are a gate: 0, or the number of the refusal.
 pub fn gate_refusal(gate: &[u16], gate_f: &[f64]) -> u16
@@ -33,10 +11,10 @@ pub fn gate_refusal(gate: &[u16], gate_f: &[f64]) -> u16
     if gate.len() != 30 {
         return 2;
     }
-    if !sound::gate_sound(gate) {
+    if !gate_sound::gate_sound(gate) {
         return 9;
     }
-    if gate_f.len() != sound::f_len(gate) {
+    if gate_f.len() != gate_sound::f_len(gate) {
         return 2;
     }
     0
@@ -101,7 +79,7 @@ pub fn gate_update_refusal(
     if no_pair != 0 {
         return no_pair;
     }
-    four_long(wide(gate[0]), power_db, power, rise, drop)
+    four_long(laws::wide(gate[0]), power_db, power, rise, drop)
 }
 
 // Whether they take a hold.
@@ -119,7 +97,7 @@ pub fn hold_refusal(
     if no_pair != 0 {
         return no_pair;
     }
-    two_long(wide(gate[0]), rise, drop)
+    two_long(laws::wide(gate[0]), rise, drop)
 }
 
 fn channel_refusal(n: usize, k: usize) -> u16
@@ -139,7 +117,7 @@ pub fn smoothed_refusal(gate: &[u16], gate_f: &[f64], k: usize) -> u16
     if no != 0 {
         return no;
     }
-    channel_refusal(wide(gate[0]), k)
+    channel_refusal(laws::wide(gate[0]), k)
 }
 
 // Whether bank and gate have an early rise of channel k.
@@ -150,5 +128,5 @@ pub fn early_refusal(bank: &[u16], bank_f: &[f64], gate: &[u16], gate_f: &[f64],
     if no_pair != 0 {
         return no_pair;
     }
-    channel_refusal(wide(gate[0]), k)
+    channel_refusal(laws::wide(gate[0]), k)
 }

@@ -21,12 +21,6 @@ fn floor_held(x: f64) -> u16
     }
 }
 
-fn wide(x: u16) -> usize
-    ensures { λ r. ⌜ r ≡ x ⌝ }
-{
-    x as usize
-}
-
 // The rung of a z below 0, where x is -z: a fraction of x takes it one rung down.
 fn rung_below(x: f64) -> usize
     ensures { λ r. ⌜ (r ≡ floorBelow (floorHeld 1920 x) x) × (r ≤ 1920) ⌝ }
@@ -36,9 +30,9 @@ fn rung_below(x: f64) -> usize
         return 0;
     }
     if t as f64 == x {
-        return 1920 - wide(t);
+        return 1920 - laws::wide(t);
     }
-    1919 - wide(t)
+    1919 - laws::wide(t)
 }
 
 // floor(z) + 1920. An eighth of a dB is a rung, from -240 dB on.
@@ -46,7 +40,7 @@ fn rung(z: f64) -> usize
     ensures { λ r. ⌜ (r ≡ rung z) × (r ≤ 5120) ⌝ }
 {
     if z >= 0.0 {
-        return 1920 + wide(floor_held(z));
+        return 1920 + laws::wide(floor_held(z));
     }
     rung_below(-z)
 }

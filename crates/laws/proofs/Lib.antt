@@ -6,3 +6,5 @@ pub mod Floats
 pub mod Defaults
 pub mod Runs
 pub mod Counting
+pub mod Counts
+pub mod Fills

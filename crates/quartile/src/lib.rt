@@ -6,12 +6,6 @@ ghost use Rattle.model.specs.Ring.{entries, smallest, quartile, rawFloor, usabl
 ghost use Rattle.model.specs.Stores.{chanOf};
 ghost use Rattle.model.specs.Sound.{Sound};
 
-fn wide(x: u16) -> usize
-    ensures { λ r. ⌜ r ≡ x ⌝ }
-{
-    x as usize
-}
-
 // The bin of the rank-th smallest entry: the first at which the counts so far come to rank.
 fn ranked_bin(chan: &[u16], rank: usize) -> u16
     requires { ⌜ (length (now chan) ≡ 533) × Sound 250 280 (chanOf (now chan)) ⌝ }
@@ -21,7 +15,7 @@ fn ranked_bin(chan: &[u16], rank: usize) -> u16
     let mut passed: usize = 0;
     let mut b: usize = 0;
     while b < 280 {
-        passed += wide(chan[250 + b]);
+        passed += laws::wide(chan[250 + b]);
         if passed >= rank {
             return b as u16;
         }
@@ -36,7 +30,7 @@ fn quartile(chan: &[u16], skip: usize) -> f64
     requires { ⌜ skip ≤ getD (now chan) 250 0 ⌝ }
     ensures { λ r. ⌜ r ≡ quartile skip (chanOf (now (chan .entry))) ⌝ }
 {
-    let left = wide(chan[531]) - skip;
+    let left = laws::wide(chan[531]) - skip;
     if left == 0 {
         return -140.0;
     }
@@ -63,5 +57,5 @@ pub fn usable_floor(chan: &[u16], raw: f64) -> f64
     if lead == chan[531] {
         return raw;
     }
-    quartile(chan, wide(lead))
+    quartile(chan, laws::wide(lead))
 }

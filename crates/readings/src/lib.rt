@@ -1,18 +1,8 @@
 // Document 01, "Readings", the bank's half: what is read of a lent bank, by channel.
 ghost use mathlib.Core.Path.{_≡_};
-ghost use Prim.Native.Nat.{_+_, _*_, _≤_, _<_};
-ghost use lib.ListN.{length, getD};
+ghost use Prim.Native.Nat.{_<_};
 ghost use Rattle.laws.specs.Lists.{part};
-ghost use Rattle.model.specs.Numbers.{f0};
-ghost use Rattle.model.specs.Stores.{base, bankLen, bankFLen, bankOf};
-ghost use Rattle.model.specs.Readings.{below, above, effectiveAt, riseAt, referenceAt, floorsAt, rawReading, effectiveReading, riseReading, referenceReading, floorsReading, ringStart, ringLength, VeryPart};
-ghost use Rattle.readings.specs.Readable.{Readable};
-
-fn wide(x: u16) -> usize
-    ensures { λ r. ⌜ r ≡ x ⌝ }
-{
-    x as usize
-}
+ghost use Rattle.model.specs.Readings.{rawReading, effectiveReading, riseReading, referenceReading, floorsReading, ringStart, ringLength, VeryPart};
 
 // The raw floor, as it is stored.
 pub fn channel_floor_db(bank: &[u16], bank_f: &[f64], k: usize) -> model::Reading
@@ -26,25 +16,6 @@ pub fn channel_floor_db(bank: &[u16], bank_f: &[f64], k: usize) -> model::Readin
     model::Reading::Value(raw)
 }
 
-pub fn effective_at(bank: &[u16], bank_f: &[f64], k: usize) -> f64
-    requires { ⌜ Readable (now bank) (now «bank_f») k ⌝ }
-    ensures { λ r. ⌜ r ≡ effectiveAt (bankOf (now (bank .entry)) (now («bank_f» .entry))) k ⌝ }
-{
-    let n = wide(bank[0]);
-    let blocks = (n + 31) / 32;
-    let i = k / 32;
-    let a = 3 + blocks + 533 * k;
-    let e = a + 533;
-    let since = ring::since(&bank[a..e]);
-    block::effective_floor(
-        bank_f[n + k],
-        bank_f[4 * n + i],
-        since,
-        bank[3 + i],
-        bank_f[4 * n + blocks + i],
-    )
-}
-
 // The effective floor is not stored: it is worked out from the stored usable floor, block floor and seed.
 pub fn effective_floor_db(bank: &[u16], bank_f: &[f64], k: usize) -> model::Reading
     ensures { λ r. ⌜ r ≡ effectiveReading (now (bank .entry)) (now («bank_f» .entry)) k ⌝ }
@@ -53,15 +24,7 @@ pub fn effective_floor_db(bank: &[u16], bank_f: &[f64], k: usize) -> model::Read
     if no != 0 {
         return model::Reading::Refused(no);
     }
-    model::Reading::Value(effective_at(bank, bank_f, k))
-}
-
-pub fn rise_at(bank: &[u16], bank_f: &[f64], k: usize) -> f64
-    requires { ⌜ Readable (now bank) (now «bank_f») k ⌝ }
-    ensures { λ r. ⌜ r ≡ riseAt (bankOf (now (bank .entry)) (now («bank_f» .entry))) k ⌝ }
-{
-    let n = wide(bank[0]);
-    bank_f[3 * n + k]
+    model::Reading::Value(channel_readings::effective_at(bank, bank_f, k))
 }
 
 // The rise floor, as it is stored.
@@ -72,44 +35,7 @@ pub fn rise_floor_db(bank: &[u16], bank_f: &[f64], k: usize) -> model::Reading
     if no != 0 {
         return model::Reading::Refused(no);
     }
-    model::Reading::Value(rise_at(bank, bank_f, k))
-}
-
-// The smoothed power of channel k of n.
-fn power_at(bank_f: &[f64], n: usize, k: usize) -> f64
-    requires { ⌜ (n ≤ 512) × (length (now «bank_f») ≡ bankFLen n) × (k < n) ⌝ }
-    ensures { λ r. ⌜ r ≡ getD (part (2 * n) n (now («bank_f» .entry))) k f0 ⌝ }
-{
-    bank_f[2 * n + k]
-}
-
-// The smoothed power d channels below k, and d above, wrapping.
-fn power_below(bank_f: &[f64], n: usize, k: usize, d: usize) -> f64
-    requires { ⌜ (n ≤ 512) × (length (now «bank_f») ≡ bankFLen n) × (k < n) × (d ≤ 4) ⌝ }
-    ensures { λ r. ⌜ r ≡ getD (part (2 * n) n (now («bank_f» .entry))) (below n k d) f0 ⌝ }
-{
-    power_at(bank_f, n, (k + 4 * n - d) % n)
-}
-
-fn power_above(bank_f: &[f64], n: usize, k: usize, d: usize) -> f64
-    requires { ⌜ (n ≤ 512) × (length (now «bank_f») ≡ bankFLen n) × (k < n) × (d ≤ 4) ⌝ }
-    ensures { λ r. ⌜ r ≡ getD (part (2 * n) n (now («bank_f» .entry))) (above n k d) f0 ⌝ }
-{
-    power_at(bank_f, n, (k + d) % n)
-}
-
-// Channel k and its next neighbours are left out: a signal in k spills into them.
-fn reference_at(bank: &[u16], bank_f: &[f64], k: usize) -> f64
-    requires { ⌜ Readable (now bank) (now «bank_f») k ⌝ }
-    ensures { λ r. ⌜ r ≡ referenceAt (bankOf (now (bank .entry)) (now («bank_f» .entry))) k ⌝ }
-{
-    let n = wide(bank[0]);
-    let x = block::least(1.0 / 0.0, power_below(bank_f, n, k, 4));
-    let x = block::least(x, power_below(bank_f, n, k, 3));
-    let x = block::least(x, power_below(bank_f, n, k, 2));
-    let x = block::least(x, power_above(bank_f, n, k, 2));
-    let x = block::least(x, power_above(bank_f, n, k, 3));
-    block::least(x, power_above(bank_f, n, k, 4))
+    model::Reading::Value(channel_readings::rise_at(bank, bank_f, k))
 }
 
 // The spectral reference, a linear power.
@@ -120,20 +46,7 @@ pub fn spectral_reference(bank: &[u16], bank_f: &[f64], k: usize) -> model::Read
     if no != 0 {
         return model::Reading::Refused(no);
     }
-    model::Reading::Value(reference_at(bank, bank_f, k))
-}
-
-fn floors_at(bank: &[u16], bank_f: &[f64], k: usize) -> model::Floors
-    requires { ⌜ Readable (now bank) (now «bank_f») k ⌝ }
-    ensures { λ r. ⌜ r ≡ floorsAt (bankOf (now (bank .entry)) (now («bank_f» .entry))) k ⌝ }
-{
-    let effective = effective_at(bank, bank_f, k);
-    let rise = rise_at(bank, bank_f, k);
-    model::Floors {
-        effective: effective,
-        rise: rise,
-        raw: bank_f[k],
-    }
+    model::Reading::Value(channel_readings::reference_at(bank, bank_f, k))
 }
 
 // Effective, rise and raw floor at once.
@@ -144,30 +57,7 @@ pub fn floors(bank: &[u16], bank_f: &[f64], k: usize) -> model::FloorsReading
     if no != 0 {
         return model::FloorsReading::Refused(no);
     }
-    model::FloorsReading::Value(floors_at(bank, bank_f, k))
-}
-
-// Where the ring of channel k starts.
-pub fn ring_start(bank: &[u16], k: usize) -> usize
-    requires { ⌜ (k < getD (now bank) 0 0) × (getD (now bank) 0 0 ≤ 512) × (length (now bank) ≡ bankLen (getD (now bank) 0 0)) ⌝ }
-    ensures { λ r. ⌜ (r ≡ base (getD (now (bank .entry)) 0 0) + 533 * k) × (r + 250 ≤ length (now (bank .entry))) ⌝ }
-{
-    let n = wide(bank[0]);
-    3 + (n + 31) / 32 + 533 * k
-}
-
-fn ring_at<'a>(bank: &'a [u16], a: usize) -> &'a [u16]
-    requires { ⌜ a + 250 ≤ length (now bank) ⌝ }
-    ensures { λ r. ⌜ VeryPart (bank .entry) r a 250 ⌝ }
-{
-    let e = a + 250;
-    &bank[a..e]
-}
-
-fn empty_at_start<'a>(bank: &'a [u16]) -> &'a [u16]
-    ensures { λ r. ⌜ VeryPart (bank .entry) r 0 0 ⌝ }
-{
-    &bank[0..0]
+    model::FloorsReading::Value(channel_readings::floors_at(bank, bank_f, k))
 }
 
 // The ring of channel k: the very part of the store that it occupies.
@@ -175,7 +65,7 @@ pub fn ring<'a>(bank: &'a [u16], bank_f: &[f64], k: usize) -> &'a [u16]
     ensures { λ r. ⌜ VeryPart (bank .entry) r (ringStart (now (bank .entry)) (now («bank_f» .entry)) k) (ringLength (now (bank .entry)) (now («bank_f» .entry)) k) ⌝ }
 {
     if stores::read_refusal(bank, bank_f, k) != 0 {
-        return empty_at_start(bank);
+        return channel_readings::empty_at_start(bank);
     }
-    ring_at(bank, ring_start(bank, k))
+    channel_readings::ring_at(bank, channel_readings::ring_start(bank, k))
 }

@@ -40,7 +40,7 @@ fn fill_lengths(list: &[u8], at: usize, lengths: &mut [u16]) {
 
 // The answer for the settings of a record and these lengths.
 fn made(list: &[u8], at: usize, gate: &mut [u16], gate_f: &mut [f64], lengths: &[u16]) -> u16 {
-    gate_store::making::gate_new(
+    gate_making::gate_new(
         gate,
         gate_f,
         index(byte_at(list, after(at, 1))),

@@ -96,7 +96,7 @@ fn sized(r: Replay, n: u8, floats: u16) -> Replay {
 
 // 1, n, answer: a fresh bank.
 fn replay_new(list: &[u8], r: Replay, bank: &mut [u16], bank_f: &mut [f64]) -> Replay {
-    let answer = stores::making::bank_new(bank, bank_f, index(byte_at(list, after(r.at, 1))));
+    let answer = bank_making::bank_new(bank, bank_f, index(byte_at(list, after(r.at, 1))));
     passed(r, 3, one(answer != wide(byte_at(list, after(r.at, 2)))))
 }
 

@@ -44,12 +44,6 @@ pub fn bin_centre(b: u16) -> f64
     -140.0 + ((b as f64) + 0.5) * 0.5
 }
 
-fn wide(x: u16) -> usize
-    ensures { λ r. ⌜ r ≡ x ⌝ }
-{
-    x as usize
-}
-
 // A count is a u8 in floor.rs, and stays at 255.
 fn one_more(count: u16) -> u16
     ensures { λ r. ⌜ r ≡ min (count + 1) 255 ⌝ }
@@ -92,7 +86,7 @@ fn oldest_bin(chan: &[u16]) -> u16
     requires { ⌜ (length (now chan) ≡ 533) × Sound 250 280 (chanOf (now chan)) ⌝ }
     ensures { λ r. ⌜ (r ≡ oldest (chanOf (now (chan .entry)))) × (r < 280) ⌝ }
 {
-    let next = wide(chan[NEXT]);
+    let next = laws::wide(chan[NEXT]);
     chan[next]
 }
 
@@ -102,7 +96,7 @@ fn evict(chan: &mut [u16])
     ensures { λ _. ⌜ now (chan .exit) ≡ chanU (roomed true (chanOf (now (chan .entry)))) ⌝ }
 {
     let oldest = oldest_bin(chan);
-    let at = COUNTS + wide(oldest);
+    let at = COUNTS + laws::wide(oldest);
     let count = chan[at];
     let lead = chan[LEAD];
     chan[at] = one_less(count);
@@ -128,8 +122,8 @@ fn enter(chan: &mut [u16], bin: u16, rise: u16)
     ensures { λ _. ⌜ now (chan .exit) ≡ chanU (entered (chanOf (now (chan .entry))) bin rise) ⌝ }
 {
     let next = chan[NEXT];
-    let place = wide(next);
-    let at = COUNTS + wide(bin);
+    let place = laws::wide(next);
+    let at = COUNTS + laws::wide(bin);
     let count = chan[at];
     let lead = chan[LEAD];
     chan[place] = bin;

@@ -19,7 +19,7 @@ use Rattle.model.specs.Stores.{bankLen, bankFLen, bankOf, chanOf, chanPart, sou
 use Rattle.model.specs.Refusals.{bankRefusal}
 use Rattle.model.specs.Calls.{bankLenFor, bankFLenFor}
 use Rattle.stores.specs.Checks.{soundHead, soundSeeds, soundChannels, soundStore, sizeRefusal}
-use Rattle.stores.proofs.Checks.{all-same}
+use Rattle.bank_sound.proofs.Checks.{all-same}
 
 -- ---- sizes
 

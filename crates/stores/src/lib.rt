@@ -1,6 +1,4 @@
 // Document 01, "Stores": the soundness test of a lent bank, the refusals in their order, and a fresh bank.
-pub mod making;
-pub mod sound;
 
 ghost use mathlib.Core.Path.{_≡_};
 ghost use Prim.Native.Nat.{_≤_};
@@ -12,13 +10,7 @@ ghost use Rattle.model.specs.Calls.{bankLenFor, bankFLenFor};
 ghost use Rattle.model.specs.Refusals.{garbled as garbledBy, bankRefusal, updateRefusal, readRefusal};
 ghost use Rattle.stores.specs.Checks.{soundHead, soundSeeds, soundChannels, soundStore, sizeRefusal, sharingOf, hopRefusal};
 
-fn wide(x: u16) -> usize
-    ensures { λ r. ⌜ r ≡ x ⌝ }
-{
-    x as usize
-}
-
-fn blocks(n: usize) -> usize
+pub fn blocks(n: usize) -> usize
     requires { ⌜ n ≤ 512 ⌝ }
     ensures { λ r. ⌜ (r ≡ blocksOf n) × (r ≤ 16) ⌝ }
 {
@@ -63,7 +55,7 @@ pub fn bank_f_len(n: usize) -> usize
 }
 
 // The refusals over sizes; `band` is the number for an n that no bank has.
-fn size_refusal(band: u16, u_len: usize, f_len: usize, n: usize) -> u16
+pub fn size_refusal(band: u16, u_len: usize, f_len: usize, n: usize) -> u16
     ensures { λ r. ⌜ r ≡ sizeRefusal band «u_len» «f_len» n ⌝ }
 {
     if !in_band(n) {
@@ -111,7 +103,7 @@ fn channels_sound(bank: &[u16], n: usize) -> bool
     while k < n {
         let a = start + 533 * k;
         let e = a + 533;
-        if !sound::channel_sound(&bank[a..e]) {
+        if !bank_sound::channel_sound(&bank[a..e]) {
             return false;
         }
         k += 1;
@@ -139,7 +131,7 @@ pub fn bank_refusal(bank: &[u16], bank_f: &[f64]) -> u16
     if bank.len() < 3 {
         return 2;
     }
-    let n = wide(bank[0]);
+    let n = laws::wide(bank[0]);
     let no = size_refusal(9, bank.len(), bank_f.len(), n);
     if no != 0 {
         return no;
@@ -158,7 +150,7 @@ pub fn read_refusal(bank: &[u16], bank_f: &[f64], k: usize) -> u16
     if no != 0 {
         return no;
     }
-    if k < wide(bank[0]) {
+    if k < laws::wide(bank[0]) {
         return 0;
     }
     7
@@ -215,5 +207,5 @@ pub fn update_refusal(bank: &[u16], bank_f: &[f64], power_db: &[f64], power: &[f
     if no != 0 {
         return no;
     }
-    hop_refusal(wide(bank[0]), bank[1], power_db, power)
+    hop_refusal(laws::wide(bank[0]), bank[1], power_db, power)
 }

@@ -23,11 +23,11 @@ fn make(
     gate: &mut [u16],
     gate_f: &mut [f64],
 ) -> u16 {
-    let no = stores::making::bank_new(bank, bank_f, wide(n));
+    let no = bank_making::bank_new(bank, bank_f, wide(n));
     if no != 0 {
         return no;
     }
-    gate_store::making::gate_new(
+    gate_making::gate_new(
         gate,
         gate_f,
         wide(n),

@@ -37,7 +37,7 @@ fn watch_channels(fd: i32, name: &[u8], s: Settings, lengths: &[u16], n: u16) {
     if count > lengths.len() {
         return;
     }
-    let gate_f_len = gate_store::gate_f_len(wide(n), &lengths[..count]);
+    let gate_f_len = gate_making::gate_f_len(wide(n), &lengths[..count]);
     if gate_f_len > MOST_GATE_F {
         report::print_too_large(name, n, gate_f_len, MOST_GATE_F);
         return;

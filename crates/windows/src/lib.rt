@@ -8,7 +8,6 @@ ghost use Rattle.model.specs.Gate.{sampleOf};
 ghost use Rattle.model.specs.GateStores.{lookF};
 ghost use Rattle.windows.specs.Looks.{CursorFits, LookFits, advancedOf, middleFrom, looksIn, steppedLook};
 
-pub mod rises;
 
 // Where the windows of one length stand: its length, the place of the next sample and how many places are filled.
 pub struct Cursor {
@@ -79,7 +78,7 @@ fn push_look(look: &mut [f64], c: Cursor, power: &[f32])
     let mut k: usize = 0;
     while k < n {
         let ring = 2 * m * k;
-        let sample = block::powers::power_linear(power[k]);
+        let sample = powers::power_linear(power[k]);
         let old = look[ring + at];
         let mid = look[ring + middle];
         let p = look[previous + k];

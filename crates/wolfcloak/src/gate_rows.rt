@@ -7,7 +7,7 @@ ghost use Rattle.wolfcloak.specs.Answers.{answered};
 pub extern "C" fn wolfcloak_gate_f_len(n: usize, lengths: &[u16]) -> usize
     ensures { λ r. ⌜ r ≡ gateFLenFor n (now (lengths .entry)) ⌝ }
 {
-    gate_store::gate_f_len(n, lengths)
+    gate_making::gate_f_len(n, lengths)
 }
 
 #[no_mangle]
@@ -22,7 +22,7 @@ pub extern "C" fn wolfcloak_gate_new(
 ) -> u16
     ensures { λ r. ⌜ (r, now (gate .exit), now («gate_f» .exit)) ≡ gateNew (now (gate .entry)) (now («gate_f» .entry)) n on off early (now (lengths .entry)) ⌝ }
 {
-    gate_store::making::gate_new(gate, gate_f, n, on, off, early, lengths)
+    gate_making::gate_new(gate, gate_f, n, on, off, early, lengths)
 }
 
 #[no_mangle]

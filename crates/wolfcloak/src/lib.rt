@@ -26,7 +26,7 @@ pub extern "C" fn wolfcloak_bank_f_len(n: usize) -> usize
 pub extern "C" fn wolfcloak_bank_new(bank: &mut [u16], bank_f: &mut [f64], n: usize) -> u16
     ensures { λ r. ⌜ (r, now (bank .exit), now («bank_f» .exit)) ≡ bankNew (now (bank .entry)) (now («bank_f» .entry)) n ⌝ }
 {
-    stores::making::bank_new(bank, bank_f, n)
+    bank_making::bank_new(bank, bank_f, n)
 }
 
 #[no_mangle]
@@ -157,7 +157,7 @@ pub extern "C" fn wolfcloak_ring(
     if no != 0 {
         return no;
     }
-    *start = readings::ring_start(bank, k);
+    *start = channel_readings::ring_start(bank, k);
     *len = 250;
     0
 }

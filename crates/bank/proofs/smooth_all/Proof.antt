@@ -8,8 +8,8 @@ use borrow.Author.Needs.{needs}
 use Rattle.laws.specs.Lists.{part}
 use Rattle.laws.proofs.Lists.{width, length-part}
 use Rattle.model.specs.Stores.{bankF, bankOf}
-use Rattle.bank.specs.Steps.{smoothStep}
-use Rattle.bank.proofs.Loops.{Fits, fits, smooth-done, starts, goes-on, held-stays}
+use Rattle.bank_steps.specs.Steps.{smoothStep}
+use Rattle.bank_steps.proofs.Loops.{Fits, fits, smooth-done, starts, goes-on, held-stays}
 use Rattle.bank.proofs.smooth_all.Statement.{statement}
 use Rattle.bank.proofs.smooth_all.Tie as tie
 

@@ -8,9 +8,9 @@ use Rattle.laws.specs.Lists.{one}
 use Rattle.model.specs.Stores.{bankOf}
 use Rattle.model.specs.Gate.{earlyRise}
 use Rattle.model.specs.GateStores.{gateOf}
-use Rattle.readings.proofs.Places.{from-ready}
-use Rattle.gate.proofs.Lengths.{smooth-within}
-use Rattle.gate.proofs.Marks.{early-is, no-mark, a-mark, before-first, after-first}
+use Rattle.channel_readings.proofs.Places.{from-ready}
+use Rattle.gate_cursors.proofs.Lengths.{smooth-within}
+use Rattle.gate_marks.proofs.Marks.{early-is, no-mark, a-mark, before-first, after-first}
 use borrow.Author.Needs.{needs}
 use Rattle.gate.proofs.early_mark.Statement.{statement}
 use Rattle.gate.proofs.early_mark.Tie as tie

@@ -6,7 +6,7 @@ use lib.ListN.{length, getD}
 use lib.Ieee.{Float}
 use Rattle.model.specs.Stores.{bankOf}
 use Rattle.model.specs.GateCalls.{GateHop, gateUpdateRefusal}
-use Rattle.gate.specs.Paired.{Paired}
+use Rattle.gate_cursors.specs.Paired.{Paired}
 use Rattle.gate.proofs.Calls.{update-asked, update-refused, updated, after-n, after-paired, after-marked}
 use borrow.Author.Needs.{needs}
 use Rattle.gate.proofs.gate_update.Statement.{statement}

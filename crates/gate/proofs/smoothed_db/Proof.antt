@@ -6,8 +6,8 @@ use lib.ListN.{getD}
 use Rattle.model.specs.GateCalls.{smoothedReading}
 use Rattle.readings.proofs.Answers.{refused, valued}
 use Rattle.model.specs.GoodGate.{GateReady}
-use Rattle.gate.proofs.Lengths.{smooth-within}
-use Rattle.gate.proofs.Marks.{smooth-at}
+use Rattle.gate_cursors.proofs.Lengths.{smooth-within}
+use Rattle.gate_marks.proofs.Marks.{smooth-at}
 use Rattle.gate.proofs.Calls.{readable-gate}
 use borrow.Author.Needs.{needs}
 use Rattle.gate.proofs.smoothed_db.Statement.{statement}

@@ -3,7 +3,7 @@ use mathlib.Core.Bool.{true}
 use borrow.Author.Tests.{not-true, not-false}
 use borrow.Author.Needs.{needs}
 use Rattle.model.specs.GateStores.{soundGate}
-use Rattle.gate_store.proofs.Sizes.{not-thirty, unsound, misfit, fits}
+use Rattle.gate_sound.proofs.Sizes.{not-thirty, unsound, misfit, fits}
 use Rattle.gate_store.proofs.gate_refusal.Statement.{statement}
 use Rattle.gate_store.proofs.gate_refusal.Tie as tie
 

@@ -4,8 +4,8 @@ use native.Mathlib.Omega.{arith}
 use borrow.Author.Needs.{needs}
 use Rattle.laws.proofs.Tests.{stands, goes-on}
 use Rattle.model.specs.GateCalls.{pairRefusal, holdRefusal}
-use Rattle.gate_store.specs.Checks.{twoLong}
-use Rattle.gate_store.proofs.Sizes.{pair-thirty}
+use Rattle.gate_sound.specs.Checks.{twoLong}
+use Rattle.gate_sound.proofs.Sizes.{pair-thirty}
 use Rattle.gate_store.proofs.hold_refusal.Statement.{statement}
 use Rattle.gate_store.proofs.hold_refusal.Tie as tie
 

@@ -4,8 +4,8 @@ use native.Mathlib.Omega.{arith}
 use borrow.Author.Needs.{needs}
 use Rattle.laws.proofs.Tests.{stands, goes-on}
 use Rattle.model.specs.GateCalls.{gateRefusal}
-use Rattle.gate_store.specs.Checks.{channelRefusal}
-use Rattle.gate_store.proofs.Sizes.{thirty}
+use Rattle.gate_sound.specs.Checks.{channelRefusal}
+use Rattle.gate_sound.proofs.Sizes.{thirty}
 use Rattle.gate_store.proofs.smoothed_refusal.Statement.{statement}
 use Rattle.gate_store.proofs.smoothed_refusal.Tie as tie
 

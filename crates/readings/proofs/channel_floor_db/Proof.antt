@@ -2,8 +2,8 @@
 use mathlib.Core.Path.{sym, _∙_}
 use native.Mathlib.Omega.{arith}
 use Rattle.model.specs.Readings.{rawReading}
-use Rattle.readings.specs.Readable.{Readable}
-use Rattle.readings.proofs.Places.{readable, raw-is}
+use Rattle.channel_readings.specs.Readable.{Readable}
+use Rattle.channel_readings.proofs.Places.{readable, raw-is}
 use Rattle.readings.proofs.Answers.{refused, valued}
 use borrow.Author.Needs.{needs}
 use Rattle.readings.proofs.channel_floor_db.Statement.{statement}

@@ -9,7 +9,7 @@ use borrow.Author.Tests.{eq-eqb, ne-eqb}
 use Rattle.model.specs.Stores.{base}
 use Rattle.model.specs.Refusals.{readRefusal}
 use Rattle.model.specs.Readings.{ringStart, ringLength, VeryPart}
-use Rattle.readings.proofs.Places.{readable}
+use Rattle.channel_readings.proofs.Places.{readable}
 use borrow.Author.Needs.{needs}
 use Rattle.readings.proofs.ring.Statement.{statement}
 use Rattle.readings.proofs.ring.Tie as tie

@@ -9,7 +9,7 @@ use borrow.Author.Tests.{ne-eqb}
 use Rattle.model.specs.Stores.{base}
 use Rattle.model.specs.Refusals.{readRefusal}
 use Rattle.model.specs.Readings.{ringStart, ringLength}
-use Rattle.readings.proofs.Places.{readable}
+use Rattle.channel_readings.proofs.Places.{readable}
 use Rattle.wolfcloak.specs.Answers.{ringAnswered}
 use borrow.Author.Needs.{needs}
 use Rattle.wolfcloak.proofs.wolfcloak_ring.Statement.{statement}

@@ -8,7 +8,7 @@ use lib.ListN.{length}
 use lib.Ieee.{nan}
 use Rattle.model.specs.Numbers.{f0}
 use Rattle.block.specs.Seeds.{pushesAt, sumAt}
-use Rattle.block.proofs.Fills.{Filled, begins, unwritten, turns, done}
+use Rattle.laws.proofs.Fills.{Filled, begins, unwritten, turns, done}
 use borrow.Author.Needs.{needs}
 use Rattle.block.proofs.seeds.seed_blocks.Statement.{statement}
 use Rattle.block.proofs.seeds.seed_blocks.Tie as tie

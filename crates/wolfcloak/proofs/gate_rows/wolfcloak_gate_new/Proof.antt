@@ -3,7 +3,7 @@ use mathlib.Core.Path.{_∙_}
 use lib.IntN.{ℤ}
 use borrow.Author.Needs.{needs}
 use Rattle.model.specs.GateCalls.{gateNew}
-use Rattle.gate_store.proofs.Levels.{three-read}
+use Rattle.gate_making.proofs.Levels.{three-read}
 use Rattle.wolfcloak.proofs.gate_rows.wolfcloak_gate_new.Statement.{statement}
 use Rattle.wolfcloak.proofs.gate_rows.wolfcloak_gate_new.Tie as tie
 

@@ -1,0 +1,130 @@
+-- Laws on counting failures and on the recount of a channel. Assumes nothing.
+use mathlib.Core.Path.{_≡_, refl, sym, ap, ap₂, _∙_}
+use mathlib.Core.Bool.{Bool, true, false, cond, not, _&&_}
+use mathlib.Core.List.{List, [], _∷_, _++_}
+use Prim.Native.Nat.{ℕ, zero, suc, _+_, _<_, _≤_}
+use native.Mathlib.Nat.{add-zero, zero-add}
+use native.Mathlib.Omega.{arith}
+use native.Mathlib.Numerals.{add-one}
+use lib.Dec.{eqb, ltb, leb}
+use lib.ListN.{length, getD, take, set}
+use lib.Seq.{take-suc, take-take, getD-set-same, getD-set-other}
+use borrow.Author.Tests.{eqb-true, eqb-false, eq-eqb, ne-eqb, ltb-true, leb-true}
+use Rattle.laws.specs.Lists.{one, occ, part}
+use Rattle.laws.proofs.Counting.{one-le, occ-le}
+use Rattle.laws.specs.Tests.{allBelow}
+use Rattle.laws.proofs.Lists.{getD-part}
+use Rattle.laws.proofs.Tests.{by-test, all-at, and-l, and-r, and-true, and-false-l, and-false-r}
+use Rattle.model.specs.Stores.{chanOf, soundFields, soundRing, soundCounts, soundChannel}
+use Rattle.bank_sound.specs.Fails.{fails, isBin, strayEntries, isTallied, wrongCounts}
+
+-- ---- failures counted
+
+fails-more : (n : ℕ) (p : ℕ → Bool) → fails (n + 1) p ≡ fails n p + one (not (p n))
+unfolding fails
+fails-more n p = rw (add-one n)
+
+pub fails-le : (n : ℕ) (p : ℕ → Bool) → fails n p ≤ n
+unfolding fails
+fails-le zero p = omega arith
+fails-le (suc n) p = omega (arith, fails-le n p, one-le (not (p n)))
+
+-- a turn of a loop that counts failures
+pub count-more : (n : ℕ) (p : ℕ → Bool) (x y : ℕ) → x ≡ fails n p → y ≡ one (not (p n)) → x + y ≡ fails (n + 1) p
+count-more n p x y d e = ap₂ _+_ d e ∙ sym (fails-more n p)
+
+last-fails : (x : ℕ) (a b : Bool) → eqb x 0 ≡ a → eqb (x + one (not b)) 0 ≡ (a && b)
+last-fails x true true h = ap (λ (k : ℕ). eqb k 0) (add-zero x) ∙ h
+last-fails x true false h = ne-eqb (x + 1) 0 (λ e. omega arith)
+last-fails x false true h = ap (λ (k : ℕ). eqb k 0) (add-zero x) ∙ h
+last-fails x false false h = ne-eqb (x + 1) 0 (λ e. omega arith)
+
+-- none fails exactly if the test holds of each
+pub none-fails : (n : ℕ) (p : ℕ → Bool) → eqb (fails n p) 0 ≡ allBelow n p
+unfolding fails allBelow
+none-fails zero p = refl
+none-fails (suc n) p = last-fails (fails n p) (allBelow n p) (p n) (none-fails n p)
+
+-- two tests that agree below n
+pub all-same : (n : ℕ) (p q : ℕ → Bool) → ((i : ℕ) → i < n → p i ≡ q i) → allBelow n p ≡ allBelow n q
+unfolding allBelow
+all-same zero p q h = refl
+all-same (suc n) p q h = ap₂ _&&_ (all-same n p q (λ i l. h i (omega arith))) (h n (omega arith))
+
+-- ---- the ring
+
+pub entry-below : (l : List ℕ) (i : ℕ) → strayEntries l ≡ 0 → i < 250 → getD l i 0 < 280
+unfolding strayEntries
+entry-below l i h k = ltb-true (getD l i 0) 280 (all-at (isBin l) 250 i (sym (none-fails 250 (isBin l)) ∙ eq-eqb (fails 250 (isBin l)) 0 h) k)
+
+pub ring-sound : (l : List ℕ) → eqb (strayEntries l) 0 ≡ soundRing (chanOf l)
+unfolding strayEntries soundRing
+ring-sound l =
+    none-fails 250 (isBin l)
+    ∙ all-same 250 (isBin l) (λ i. ltb (getD (part 0 250 l) i 0) 280)
+    (λ i h. ap (λ (x : ℕ). ltb x 280) (sym (getD-part 0 250 l i 0 h ∙ ap (λ (k : ℕ). getD l k 0) (zero-add i))))
+
+-- ---- the recount
+
+occ-snoc : (b : ℕ) (l : List ℕ) (x : ℕ) → occ b (l ++ (x ∷ [])) ≡ occ b l + one (eqb b x)
+occ-snoc b [] x = omega arith
+occ-snoc b (y ∷ l) x = omega (arith, occ-snoc b l x)
+
+occ-step : (b : ℕ) (l : List ℕ) (i : ℕ) → i < length l → occ b (take (i + 1) l) ≡ occ b (take i l) + one (eqb b (getD l i 0))
+occ-step b l i h = rw (add-one i, take-suc l i 0) (occ-snoc b (take i l) (getD l i 0))
+
+-- one more entry counted: what a turn of the recount does
+pub tally-more : (n : ℕ) (l t : List ℕ) (i : ℕ) → length t ≡ n → i < length l → getD l i 0 < n
+    → ((b : ℕ) → b < n → getD t b 0 ≡ occ b (take i l))
+    → (b : ℕ) → b < n → getD (set t (getD l i 0) (getD t (getD l i 0) 0 + 1)) b 0 ≡ occ b (take (i + 1) l)
+tally-more n l t i lt h g all b k =
+    let x = getD l i 0 in
+    by-test (eqb b x)
+    (λ e.
+    let q : x ≡ b = sym (eqb-true b x e) in
+    rw (← q) (getD-set-same t x (getD t x 0 + 1) 0 (omega arith) ∙ ap (λ (m : ℕ). m + 1) (all x g) ∙ sym (occ-step x l i h ∙ ap (λ (v : Bool). occ x (take i l) + one v) (eq-eqb x x refl))))
+    (λ e.
+    getD-set-other t x b (getD t x 0 + 1) 0 (eqb-false b x e) ∙ all b k ∙ sym (occ-step b l i h ∙ ap (λ (v : Bool). occ b (take i l) + one v) e ∙ add-zero (occ b (take i l))))
+
+pub counts-sound : (l t : List ℕ) → getD l 531 0 ≤ 250 → ((b : ℕ) → b < 280 → getD t b 0 ≡ occ b (take (getD l 531 0) l))
+    → eqb (wrongCounts l t) 0 ≡ soundCounts (chanOf l)
+unfolding wrongCounts soundCounts
+counts-sound l t h tallied =
+    none-fails 280 (isTallied l t)
+    ∙ all-same 280 (isTallied l t) (λ b. eqb (getD (part 250 280 l) b 0) (occ b (take (getD l 531 0) (part 0 250 l))))
+    (λ b k. ap₂ eqb (sym (getD-part 250 280 l b 0 k)) (tallied b k ∙ ap (occ b) (sym (take-take (getD l 531 0) 250 l h))))
+
+-- ---- the channel, by the first test that fails
+
+abbrev pub fieldsOf : List ℕ → Bool
+fieldsOf l = soundFields (getD l 530 0) (getD l 531 0) (getD l 532 0) (getD l 250 0)
+
+channel-is : (l : List ℕ) → (fieldsOf l && soundRing (chanOf l) && soundCounts (chanOf l)) ≡ soundChannel (chanOf l)
+unfolding soundChannel
+channel-is l =
+    ap (λ (z : ℕ). soundFields (getD l 530 0) (getD l 531 0) (getD l 532 0) z && soundRing (chanOf l) && soundCounts (chanOf l))
+    (sym (getD-part 250 280 l 0 0 (omega arith)))
+
+-- what sound fields say of filled
+pub fields-filled : (l : List ℕ) → fieldsOf l ≡ true → getD l 531 0 ≤ 250
+fields-filled l h =
+    let n = ltb (getD l 530 0) 250 in
+    let f = leb (getD l 531 0) 250 in
+    let q = cond (ltb (getD l 531 0) 250) (eqb (getD l 530 0) (getD l 531 0)) true in
+    leb-true (getD l 531 0) 250 (and-r n f (and-l (n && f) q (and-l (n && f && q) (leb (getD l 532 0) (getD l 250 0)) h)))
+
+module _ (l : List ℕ) where
+  pub fields-fail : fieldsOf l ≡ false → false ≡ soundChannel (chanOf l)
+  fields-fail h = sym (and-false-l (fieldsOf l && soundRing (chanOf l)) (soundCounts (chanOf l)) (and-false-l (fieldsOf l) (soundRing (chanOf l)) h)) ∙ channel-is l
+
+  pub ring-fails : (strayEntries l ≡ 0 → ⊥) → false ≡ soundChannel (chanOf l)
+  ring-fails h =
+      sym
+      (and-false-l (fieldsOf l && soundRing (chanOf l)) (soundCounts (chanOf l))
+      (and-false-r (fieldsOf l) (soundRing (chanOf l)) (sym (ring-sound l) ∙ ne-eqb (strayEntries l) 0 h)))
+      ∙ channel-is l
+
+  pub counts-decide : fieldsOf l ≡ true → strayEntries l ≡ 0 → soundCounts (chanOf l) ≡ soundChannel (chanOf l)
+  counts-decide f s =
+      ap (λ (b : Bool). b && soundCounts (chanOf l)) (sym (and-true (fieldsOf l) (soundRing (chanOf l)) f (sym (ring-sound l) ∙ eq-eqb (strayEntries l) 0 s)))
+      ∙ channel-is l

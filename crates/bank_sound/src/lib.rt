@@ -1,0 +1,113 @@
+// Whether a channel's part of the bank's store is sound. It runs over the whole store at every call, so its loops count what is wrong
+// and never leave early: such a loop is compiled to wide steps.
+ghost use mathlib.Core.Path.{_≡_};
+ghost use mathlib.Core.Bool.{not};
+ghost use Prim.Native.Nat.{ℕ, _≤_, _<_};
+ghost use lib.Dec.{ltb, eqb};
+ghost use lib.ListN.{length, getD, take};
+ghost use Rattle.laws.specs.Lists.{one, occ};
+ghost use Rattle.model.specs.Stores.{chanOf, soundFields, soundCounts, soundChannel};
+ghost use Rattle.bank_sound.specs.Fails.{strayEntries, wrongCounts};
+
+fn fields_sound(next: u16, filled: u16, lead: u16, zeros: u16) -> bool
+    ensures { λ r. ⌜ r ≡ soundFields next filled lead zeros ⌝ }
+{
+    if next >= 250 {
+        return false;
+    }
+    if filled > 250 {
+        return false;
+    }
+    if filled == 250 {
+        return lead <= zeros;
+    }
+    if next != filled {
+        return false;
+    }
+    lead <= zeros
+}
+
+fn one_if_no_bin(x: u16) -> u16
+    ensures { λ r. ⌜ r ≡ one (not (ltb x 280)) ⌝ }
+{
+    if x < 280 {
+        return 0;
+    }
+    1
+}
+
+fn one_if_differs(a: u16, b: u16) -> u16
+    ensures { λ r. ⌜ r ≡ one (not (eqb a b)) ⌝ }
+{
+    if a == b {
+        return 0;
+    }
+    1
+}
+
+// How many entries of the ring are no bins.
+fn stray_entries(chan: &[u16]) -> u16
+    requires { ⌜ length (now chan) ≡ 533 ⌝ }
+    ensures { λ r. ⌜ r ≡ strayEntries (now (chan .entry)) ⌝ }
+{
+    let mut stray: u16 = 0;
+    let mut i: usize = 0;
+    while i < 250 {
+        stray += one_if_no_bin(chan[i]);
+        i += 1;
+    }
+    stray
+}
+
+// How often each bin stands in the filled places.
+fn tally(chan: &[u16], filled: usize) -> [u16; 280]
+    requires { ⌜ (filled ≤ 250) × (length (now chan) ≡ 533) ⌝ }
+    requires { ⌜ strayEntries (now chan) ≡ 0 ⌝ }
+    ensures { λ r. ⌜ ((b : ℕ) → b < 280 → getD r b 0 ≡ occ b (take filled (now (chan .entry)))) ⌝ }
+{
+    let mut t = [0u16; 280];
+    let mut i: usize = 0;
+    while i < filled {
+        let b = chan[i] as usize;
+        t[b] = t[b] + 1;
+        i += 1;
+    }
+    t
+}
+
+// How many counts of the channel the tally does not bear out.
+fn wrong_counts(chan: &[u16], t: &[u16; 280]) -> u16
+    requires { ⌜ length (now chan) ≡ 533 ⌝ }
+    ensures { λ r. ⌜ r ≡ wrongCounts (now (chan .entry)) (now (t .entry)) ⌝ }
+{
+    let mut wrong: u16 = 0;
+    let mut b: usize = 0;
+    while b < 280 {
+        wrong += one_if_differs(chan[250 + b], t[b]);
+        b += 1;
+    }
+    wrong
+}
+
+fn counts_sound(chan: &[u16], filled: u16) -> bool
+    requires { ⌜ (length (now chan) ≡ 533) × (filled ≡ getD (now chan) 531 0) × (filled ≤ 250) ⌝ }
+    requires { ⌜ strayEntries (now chan) ≡ 0 ⌝ }
+    ensures { λ r. ⌜ r ≡ soundCounts (chanOf (now (chan .entry))) ⌝ }
+{
+    let t = tally(chan, filled as usize);
+    wrong_counts(chan, &t) == 0
+}
+
+pub fn channel_sound(chan: &[u16]) -> bool
+    requires { ⌜ length (now chan) ≡ 533 ⌝ }
+    ensures { λ r. ⌜ r ≡ soundChannel (chanOf (now (chan .entry))) ⌝ }
+{
+    let filled = chan[531];
+    if !fields_sound(chan[530], filled, chan[532], chan[250]) {
+        return false;
+    }
+    if stray_entries(chan) != 0 {
+        return false;
+    }
+    counts_sound(chan, filled)
+}

@@ -1,5 +1,0 @@
-pub mod Counts
-pub mod Fills
-pub mod Ranks
-pub mod Order
-pub mod Taken

@@ -1,0 +1,109 @@
+// Document 01, "Readings", the bank's half: what is read of a channel of a sound bank.
+ghost use mathlib.Core.Path.{_≡_};
+ghost use Prim.Native.Nat.{_+_, _*_, _≤_, _<_};
+ghost use lib.ListN.{length, getD};
+ghost use Rattle.laws.specs.Lists.{part};
+ghost use Rattle.model.specs.Numbers.{f0};
+ghost use Rattle.model.specs.Stores.{base, bankLen, bankFLen, bankOf};
+ghost use Rattle.model.specs.Readings.{below, above, effectiveAt, riseAt, referenceAt, floorsAt, VeryPart};
+ghost use Rattle.channel_readings.specs.Readable.{Readable};
+
+pub fn effective_at(bank: &[u16], bank_f: &[f64], k: usize) -> f64
+    requires { ⌜ Readable (now bank) (now «bank_f») k ⌝ }
+    ensures { λ r. ⌜ r ≡ effectiveAt (bankOf (now (bank .entry)) (now («bank_f» .entry))) k ⌝ }
+{
+    let n = laws::wide(bank[0]);
+    let blocks = (n + 31) / 32;
+    let i = k / 32;
+    let a = 3 + blocks + 533 * k;
+    let e = a + 533;
+    let since = ring::since(&bank[a..e]);
+    block::effective_floor(
+        bank_f[n + k],
+        bank_f[4 * n + i],
+        since,
+        bank[3 + i],
+        bank_f[4 * n + blocks + i],
+    )
+}
+
+pub fn rise_at(bank: &[u16], bank_f: &[f64], k: usize) -> f64
+    requires { ⌜ Readable (now bank) (now «bank_f») k ⌝ }
+    ensures { λ r. ⌜ r ≡ riseAt (bankOf (now (bank .entry)) (now («bank_f» .entry))) k ⌝ }
+{
+    let n = laws::wide(bank[0]);
+    bank_f[3 * n + k]
+}
+
+pub fn floors_at(bank: &[u16], bank_f: &[f64], k: usize) -> model::Floors
+    requires { ⌜ Readable (now bank) (now «bank_f») k ⌝ }
+    ensures { λ r. ⌜ r ≡ floorsAt (bankOf (now (bank .entry)) (now («bank_f» .entry))) k ⌝ }
+{
+    let effective = effective_at(bank, bank_f, k);
+    let rise = rise_at(bank, bank_f, k);
+    model::Floors {
+        effective: effective,
+        rise: rise,
+        raw: bank_f[k],
+    }
+}
+
+// The smoothed power of channel k of n.
+pub fn power_at(bank_f: &[f64], n: usize, k: usize) -> f64
+    requires { ⌜ (n ≤ 512) × (length (now «bank_f») ≡ bankFLen n) × (k < n) ⌝ }
+    ensures { λ r. ⌜ r ≡ getD (part (2 * n) n (now («bank_f» .entry))) k f0 ⌝ }
+{
+    bank_f[2 * n + k]
+}
+
+// The smoothed power d channels below k, and d above, wrapping.
+pub fn power_below(bank_f: &[f64], n: usize, k: usize, d: usize) -> f64
+    requires { ⌜ (n ≤ 512) × (length (now «bank_f») ≡ bankFLen n) × (k < n) × (d ≤ 4) ⌝ }
+    ensures { λ r. ⌜ r ≡ getD (part (2 * n) n (now («bank_f» .entry))) (below n k d) f0 ⌝ }
+{
+    power_at(bank_f, n, (k + 4 * n - d) % n)
+}
+
+pub fn power_above(bank_f: &[f64], n: usize, k: usize, d: usize) -> f64
+    requires { ⌜ (n ≤ 512) × (length (now «bank_f») ≡ bankFLen n) × (k < n) × (d ≤ 4) ⌝ }
+    ensures { λ r. ⌜ r ≡ getD (part (2 * n) n (now («bank_f» .entry))) (above n k d) f0 ⌝ }
+{
+    power_at(bank_f, n, (k + d) % n)
+}
+
+// Channel k and its next neighbours are left out: a signal in k spills into them.
+pub fn reference_at(bank: &[u16], bank_f: &[f64], k: usize) -> f64
+    requires { ⌜ Readable (now bank) (now «bank_f») k ⌝ }
+    ensures { λ r. ⌜ r ≡ referenceAt (bankOf (now (bank .entry)) (now («bank_f» .entry))) k ⌝ }
+{
+    let n = laws::wide(bank[0]);
+    let x = block::least(1.0 / 0.0, power_below(bank_f, n, k, 4));
+    let x = block::least(x, power_below(bank_f, n, k, 3));
+    let x = block::least(x, power_below(bank_f, n, k, 2));
+    let x = block::least(x, power_above(bank_f, n, k, 2));
+    let x = block::least(x, power_above(bank_f, n, k, 3));
+    block::least(x, power_above(bank_f, n, k, 4))
+}
+
+// Where the ring of channel k starts.
+pub fn ring_start(bank: &[u16], k: usize) -> usize
+    requires { ⌜ (k < getD (now bank) 0 0) × (getD (now bank) 0 0 ≤ 512) × (length (now bank) ≡ bankLen (getD (now bank) 0 0)) ⌝ }
+    ensures { λ r. ⌜ (r ≡ base (getD (now (bank .entry)) 0 0) + 533 * k) × (r + 250 ≤ length (now (bank .entry))) ⌝ }
+{
+    let n = laws::wide(bank[0]);
+    3 + (n + 31) / 32 + 533 * k
+}
+
+pub fn ring_at<'a>(bank: &'a [u16], a: usize) -> &'a [u16]
+    requires { ⌜ a + 250 ≤ length (now bank) ⌝ }
+    ensures { λ r. ⌜ VeryPart (bank .entry) r a 250 ⌝ }
+{
+    let e = a + 250;
+    &bank[a..e]
+}
+
+pub fn empty_at_start<'a>(bank: &'a [u16]) -> &'a [u16]
+    ensures { λ r. ⌜ VeryPart (bank .entry) r 0 0 ⌝ }
+{
+    &bank[0..0]
+}

@@ -1,2 +1,0 @@
-pub mod Paired
-pub mod Steps
