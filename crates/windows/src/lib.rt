@@ -8,7 +8,6 @@ ghost use Rattle.model.specs.Gate.{sampleOf};
 ghost use Rattle.model.specs.GateStores.{lookF};
 ghost use Rattle.windows.specs.Looks.{CursorFits, LookFits, advancedOf, middleFrom, looksIn, steppedLook};
 
-
 // Where the windows of one length stand: its length, the place of the next sample and how many places are filled.
 pub struct Cursor {
     pub m: usize,
