@@ -79,10 +79,10 @@ tally-more n l t i lt h g all b k =
     (λ e.
     getD-set-other t x b (getD t x 0 + 1) 0 (eqb-false b x e) ∙ all b k ∙ sym (occ-step b l i h ∙ ap (λ (v : Bool). occ b (take i l) + one v) e ∙ add-zero (occ b (take i l))))
 
--- a ring of one bin is known without a count
-other-entry : (n : ℕ) (l : List ℕ) (i : ℕ) → ofOneBin n l ≡ true → i < n → getD l i 0 ≡ getD l 0 0
+-- a ring of one bin needs no count
+same-entry : (n : ℕ) (l : List ℕ) (i : ℕ) → ofOneBin n l ≡ true → i < n → getD l i 0 ≡ getD l 0 0
 unfolding ofOneBin otherEntries
-other-entry n l i h k =
+same-entry n l i h k =
     eqb-true (getD l i 0) (getD l 0 0) (all-at (isFirst l) n i (sym (none-fails n (isFirst l)) ∙ and-r (eqb (getD l (250 + getD l 0 0) 0) n) (eqb (fails n (isFirst l)) 0) h) k)
 
 pub tally-one : (m n : ℕ) (l : List ℕ) → getD l 0 0 < m → n ≤ length l → ofOneBin n l ≡ true
@@ -93,9 +93,9 @@ tally-one m n l g h o b k =
     by-test (eqb b x)
     (λ e.
     let q : x ≡ b = sym (eqb-true b x e) in
-    rw (← q) (getD-set-same t x n 0 (simp length-replicate g) ∙ sym (occ-all x l n h (λ i. other-entry n l i o))))
+    rw (← q) (getD-set-same t x n 0 (simp length-replicate g) ∙ sym (occ-all x l n h (λ i. same-entry n l i o))))
     (λ e.
-    getD-set-other t x b n 0 (eqb-false b x e) ∙ getD-replicate m b 0 0 k ∙ sym (occ-none b x l n (eqb-false b x e) h (λ i. other-entry n l i o)))
+    getD-set-other t x b n 0 (eqb-false b x e) ∙ getD-replicate m b 0 0 k ∙ sym (occ-none b x l n (eqb-false b x e) h (λ i. same-entry n l i o)))
 
 pub counts-sound : (l t : List ℕ) → getD l 531 0 ≤ 250 → ((b : ℕ) → b < 280 → getD t b 0 ≡ occ b (take (getD l 531 0) l))
     → eqb (wrongCounts l t) 0 ≡ soundCounts (chanOf l)

@@ -74,7 +74,7 @@ fn other_entries(chan: &[u16], filled: usize) -> u16
     other
 }
 
-// Whether the filled places hold one bin alone, and its stored count says so. The count is asked first: one look tells most rings apart.
+// Whether the filled places hold one bin alone, and its stored count says so. The count is asked first: for most rings one look is all.
 fn of_one_bin(chan: &[u16], filled: usize) -> bool
     requires { ⌜ (filled ≤ 250) × (length (now chan) ≡ 533) ⌝ }
     requires { ⌜ strayEntries (now chan) ≡ 0 ⌝ }
@@ -87,8 +87,8 @@ fn of_one_bin(chan: &[u16], filled: usize) -> bool
     other_entries(chan, filled) == 0
 }
 
-// How often each bin stands in the filled places. To count a ring of one bin each step would wait for the step before, to have its
-// count: such a ring, as silence leaves it, is known without.
+// How often each bin stands in the filled places. A ring of one bin, as silence or a steady tone leaves it, is not counted: each step
+// would wait for what the step before has stored.
 fn tally(chan: &[u16], filled: usize) -> [u16; 280]
     requires { ⌜ (filled ≤ 250) × (length (now chan) ≡ 533) ⌝ }
     requires { ⌜ strayEntries (now chan) ≡ 0 ⌝ }
