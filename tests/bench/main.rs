@@ -32,9 +32,9 @@ fn sum(words: &[u16]) -> u32 {
     words.iter().fold(0, |s, &w| s.wrapping_add(w as u32))
 }
 
-fn hops(n: usize) -> Vec<(Vec<f64>, Vec<f32>)> {
+fn hops(n: usize, feed: Feed) -> Vec<(Vec<f64>, Vec<f32>)> {
     let mut rng = Rng(1);
-    (0..150).map(|hop| (0..n).map(|k| sample(&mut rng, Feed::Noise, hop, k)).unzip()).collect()
+    (0..150).map(|hop| (0..n).map(|k| sample(&mut rng, feed, hop, k)).unzip()).collect()
 }
 
 fn row(what: &str, ours: f64, old: f64) {
@@ -42,7 +42,7 @@ fn row(what: &str, ours: f64, old: f64) {
 }
 
 fn bank_rows(n: usize, rounds: usize) {
-    let hops = hops(n);
+    let hops = hops(n, Feed::Noise);
     let mut oracle = FloorBank::new(n);
     let (mut u, mut f) = oracle.to_stores();
     assert_eq!(wolfcloak::bank_new(&mut u, &mut f, n), 0);
@@ -70,12 +70,39 @@ fn bank_rows(n: usize, rounds: usize) {
     println!("  {:<22} {tests:9.2} µs   (a reading of the raw floor)", "soundness");
 }
 
+/// Ordinary hops of digital silence, once 250 slow hops have filled every ring with one bin.
+fn silence_rows(n: usize, rounds: usize) {
+    let hops = hops(n, Feed::Silence);
+    let mut oracle = FloorBank::new(n);
+    let (mut u, mut f) = oracle.to_stores();
+    assert_eq!(wolfcloak::bank_new(&mut u, &mut f, n), 0);
+    let [mut ordinary, mut old_ordinary, mut tests]: [Vec<f64>; 3] = Default::default();
+    for hop in 0..(250 + rounds) * 15 {
+        let (db, power) = &hops[hop % hops.len()];
+        let ours = time(|| wolfcloak::bank_update(&mut u, &mut f, db, power, None));
+        let old = time(|| oracle.update(db, power));
+        if hop < 250 * 15 || hop % 15 == 0 {
+            continue;
+        }
+        ordinary.push(ours);
+        old_ordinary.push(old);
+        if hop % 5 == 1 {
+            let mut value = 0.0;
+            tests.push(time(|| wolfcloak::channel_floor_db(&u, &f, 0, &mut value)));
+        }
+    }
+    assert!(oracle.to_stores().0 == u);
+    let [ordinary, old_ordinary, tests] = [ordinary, old_ordinary, tests].map(median);
+    row("ordinary hop, silence", ordinary, old_ordinary);
+    println!("  {:<22} {tests:9.2} µs", "soundness, silence");
+}
+
 const LENGTHS: [u16; 3] = [15, 75, 375];
 
 /// As a receiver runs them: each hop a bank update and then a gate update; holds beside it. The longest windows are summed afresh
 /// every 750 hops.
 fn gate_rows(n: usize, rounds: usize) {
-    let hops = hops(n);
+    let hops = hops(n, Feed::Noise);
     let (mut bank, mut gate) = (FloorBank::new(n), Gate::made(n, [48, 16, 96], &LENGTHS));
     let ((mut u, mut f), (mut g, mut h)) = (bank.to_stores(), gate.to_stores());
     let (mut rise, mut drop) = (vec![0; n], vec![0; n]);
@@ -119,7 +146,9 @@ fn gate_rows(n: usize, rounds: usize) {
 
 fn main() {
     bank_rows(32, 2000);
+    silence_rows(32, 2000);
     bank_rows(512, 600);
+    silence_rows(512, 600);
     gate_rows(32, 12);
     gate_rows(512, 6);
 }

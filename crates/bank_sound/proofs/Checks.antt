@@ -1,22 +1,22 @@
 -- Laws on counting failures and on the recount of a channel. Assumes nothing.
 use mathlib.Core.Path.{_≡_, refl, sym, ap, ap₂, _∙_}
 use mathlib.Core.Bool.{Bool, true, false, cond, not, _&&_}
-use mathlib.Core.List.{List, [], _∷_, _++_}
+use mathlib.Core.List.{List}
 use Prim.Native.Nat.{ℕ, zero, suc, _+_, _<_, _≤_}
 use native.Mathlib.Nat.{add-zero, zero-add}
 use native.Mathlib.Omega.{arith}
 use native.Mathlib.Numerals.{add-one}
 use lib.Dec.{eqb, ltb, leb}
-use lib.ListN.{length, getD, take, set}
-use lib.Seq.{take-suc, take-take, getD-set-same, getD-set-other}
+use lib.ListN.{length, getD, take, set, replicate, length-replicate, getD-replicate}
+use lib.Seq.{take-take, getD-set-same, getD-set-other}
 use borrow.Author.Tests.{eqb-true, eqb-false, eq-eqb, ne-eqb, ltb-true, leb-true}
 use Rattle.laws.specs.Lists.{one, occ, part}
-use Rattle.laws.proofs.Counting.{one-le, occ-le}
+use Rattle.laws.proofs.Counting.{one-le, occ-step, occ-all, occ-none}
 use Rattle.laws.specs.Tests.{allBelow}
 use Rattle.laws.proofs.Lists.{getD-part}
 use Rattle.laws.proofs.Tests.{by-test, all-at, and-l, and-r, and-true, and-false-l, and-false-r}
 use Rattle.model.specs.Stores.{chanOf, soundFields, soundRing, soundCounts, soundChannel}
-use Rattle.bank_sound.specs.Fails.{fails, isBin, strayEntries, isTallied, wrongCounts}
+use Rattle.bank_sound.specs.Fails.{fails, isBin, strayEntries, isFirst, otherEntries, ofOneBin, isTallied, wrongCounts}
 
 -- ---- failures counted
 
@@ -66,13 +66,6 @@ ring-sound l =
 
 -- ---- the recount
 
-occ-snoc : (b : ℕ) (l : List ℕ) (x : ℕ) → occ b (l ++ (x ∷ [])) ≡ occ b l + one (eqb b x)
-occ-snoc b [] x = omega arith
-occ-snoc b (y ∷ l) x = omega (arith, occ-snoc b l x)
-
-occ-step : (b : ℕ) (l : List ℕ) (i : ℕ) → i < length l → occ b (take (i + 1) l) ≡ occ b (take i l) + one (eqb b (getD l i 0))
-occ-step b l i h = rw (add-one i, take-suc l i 0) (occ-snoc b (take i l) (getD l i 0))
-
 -- one more entry counted: what a turn of the recount does
 pub tally-more : (n : ℕ) (l t : List ℕ) (i : ℕ) → length t ≡ n → i < length l → getD l i 0 < n
     → ((b : ℕ) → b < n → getD t b 0 ≡ occ b (take i l))
@@ -85,6 +78,24 @@ tally-more n l t i lt h g all b k =
     rw (← q) (getD-set-same t x (getD t x 0 + 1) 0 (omega arith) ∙ ap (λ (m : ℕ). m + 1) (all x g) ∙ sym (occ-step x l i h ∙ ap (λ (v : Bool). occ x (take i l) + one v) (eq-eqb x x refl))))
     (λ e.
     getD-set-other t x b (getD t x 0 + 1) 0 (eqb-false b x e) ∙ all b k ∙ sym (occ-step b l i h ∙ ap (λ (v : Bool). occ b (take i l) + one v) e ∙ add-zero (occ b (take i l))))
+
+-- a ring of one bin needs no count
+same-entry : (n : ℕ) (l : List ℕ) (i : ℕ) → ofOneBin n l ≡ true → i < n → getD l i 0 ≡ getD l 0 0
+unfolding ofOneBin otherEntries
+same-entry n l i h k =
+    eqb-true (getD l i 0) (getD l 0 0) (all-at (isFirst l) n i (sym (none-fails n (isFirst l)) ∙ and-r (eqb (getD l (250 + getD l 0 0) 0) n) (eqb (fails n (isFirst l)) 0) h) k)
+
+pub tally-one : (m n : ℕ) (l : List ℕ) → getD l 0 0 < m → n ≤ length l → ofOneBin n l ≡ true
+    → (b : ℕ) → b < m → getD (set (replicate {A = ℕ} m 0) (getD l 0 0) n) b 0 ≡ occ b (take n l)
+tally-one m n l g h o b k =
+    let x = getD l 0 0 in
+    let t : List ℕ = replicate m 0 in
+    by-test (eqb b x)
+    (λ e.
+    let q : x ≡ b = sym (eqb-true b x e) in
+    rw (← q) (getD-set-same t x n 0 (simp length-replicate g) ∙ sym (occ-all x l n h (λ i. same-entry n l i o))))
+    (λ e.
+    getD-set-other t x b n 0 (eqb-false b x e) ∙ getD-replicate m b 0 0 k ∙ sym (occ-none b x l n (eqb-false b x e) h (λ i. same-entry n l i o)))
 
 pub counts-sound : (l t : List ℕ) → getD l 531 0 ≤ 250 → ((b : ℕ) → b < 280 → getD t b 0 ≡ occ b (take (getD l 531 0) l))
     → eqb (wrongCounts l t) 0 ≡ soundCounts (chanOf l)

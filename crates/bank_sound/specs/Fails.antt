@@ -1,5 +1,5 @@
 -- How many tests fail: what the store's test counts, in loops that never leave early.
-use mathlib.Core.Bool.{Bool, not}
+use mathlib.Core.Bool.{Bool, not, _&&_}
 use mathlib.Core.List.{List}
 use Prim.Native.Nat.{ℕ, zero, suc, _+_}
 use lib.Dec.{eqb, ltb}
@@ -17,6 +17,17 @@ isBin l i = ltb (getD l i 0) 280
 
 unfoldable pub strayEntries : List ℕ → ℕ
 strayEntries l = fails 250 (isBin l)
+
+-- the entries among the first n that differ from the first
+abbrev pub isFirst : List ℕ → ℕ → Bool
+isFirst l i = eqb (getD l i 0) (getD l 0 0)
+
+unfoldable pub otherEntries : ℕ → List ℕ → ℕ
+otherEntries n l = fails n (isFirst l)
+
+-- the first entry's bin has the count n, and the first n entries are all it
+unfoldable pub ofOneBin : ℕ → List ℕ → Bool
+ofOneBin n l = eqb (getD l (250 + getD l 0 0) 0) n && eqb (otherEntries n l) 0
 
 -- the counts of a channel that differ from a tally
 abbrev pub isTallied : List ℕ → List ℕ → ℕ → Bool

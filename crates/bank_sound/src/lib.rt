@@ -7,7 +7,7 @@ ghost use lib.Dec.{ltb, eqb};
 ghost use lib.ListN.{length, getD, take};
 ghost use Rattle.laws.specs.Lists.{one, occ};
 ghost use Rattle.model.specs.Stores.{chanOf, soundFields, soundCounts, soundChannel};
-ghost use Rattle.bank_sound.specs.Fails.{strayEntries, wrongCounts};
+ghost use Rattle.bank_sound.specs.Fails.{strayEntries, otherEntries, ofOneBin, wrongCounts};
 
 fn fields_sound(next: u16, filled: u16, lead: u16, zeros: u16) -> bool
     ensures { λ r. ⌜ r ≡ soundFields next filled lead zeros ⌝ }
@@ -59,13 +59,47 @@ fn stray_entries(chan: &[u16]) -> u16
     stray
 }
 
-// How often each bin stands in the filled places.
+// How many of the filled places hold another bin than the first place.
+fn other_entries(chan: &[u16], filled: usize) -> u16
+    requires { ⌜ (filled ≤ 250) × (length (now chan) ≡ 533) ⌝ }
+    ensures { λ r. ⌜ r ≡ otherEntries filled (now (chan .entry)) ⌝ }
+{
+    let first = chan[0];
+    let mut other: u16 = 0;
+    let mut i: usize = 0;
+    while i < filled {
+        other += one_if_differs(chan[i], first);
+        i += 1;
+    }
+    other
+}
+
+// Whether the filled places hold one bin alone, and its stored count says so. The count is asked first: for most rings one look is all.
+fn of_one_bin(chan: &[u16], filled: usize) -> bool
+    requires { ⌜ (filled ≤ 250) × (length (now chan) ≡ 533) ⌝ }
+    requires { ⌜ strayEntries (now chan) ≡ 0 ⌝ }
+    ensures { λ r. ⌜ r ≡ ofOneBin filled (now (chan .entry)) ⌝ }
+{
+    let first = chan[0] as usize;
+    if chan[250 + first] != filled as u16 {
+        return false;
+    }
+    other_entries(chan, filled) == 0
+}
+
+// How often each bin stands in the filled places. A ring of one bin, as silence or a steady tone leaves it, is not counted: each step
+// would wait for what the step before has stored.
 fn tally(chan: &[u16], filled: usize) -> [u16; 280]
     requires { ⌜ (filled ≤ 250) × (length (now chan) ≡ 533) ⌝ }
     requires { ⌜ strayEntries (now chan) ≡ 0 ⌝ }
     ensures { λ r. ⌜ ((b : ℕ) → b < 280 → getD r b 0 ≡ occ b (take filled (now (chan .entry)))) ⌝ }
 {
     let mut t = [0u16; 280];
+    if of_one_bin(chan, filled) {
+        let first = chan[0] as usize;
+        t[first] = filled as u16;
+        return t;
+    }
     let mut i: usize = 0;
     while i < filled {
         let b = chan[i] as usize;
