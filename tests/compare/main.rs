@@ -80,7 +80,7 @@ fn main() {
         t.check(times > 0 || jobs < usize::MAX, format_args!("the rule '{}' was never broken alone", rule.name));
     }
     let [floors, rises] = t.parted;
-    t.check(floors > 0 && rises > 0, format_args!("histories made no difference before the end of the further list"));
+    t.check(floors > 0 && rises > 0 || jobs < usize::MAX, format_args!("histories made no difference before the end of the further list"));
     t.first.iter().for_each(|d| println!("difference: {d}"));
     println!("{} pairs of histories: floors parted for a while in {floors}, rises in {rises}", SETTINGS.len());
     println!(
