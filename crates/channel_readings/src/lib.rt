@@ -49,7 +49,7 @@ pub fn floors_at(bank: &[u16], bank_f: &[f64], k: usize) -> model::Floors
 }
 
 // The smoothed power of channel k of n.
-pub fn power_at(bank_f: &[f64], n: usize, k: usize) -> f64
+fn power_at(bank_f: &[f64], n: usize, k: usize) -> f64
     requires { ⌜ (n ≤ 512) × (length (now «bank_f») ≡ bankFLen n) × (k < n) ⌝ }
     ensures { λ r. ⌜ r ≡ getD (part (2 * n) n (now («bank_f» .entry))) k f0 ⌝ }
 {
@@ -57,14 +57,14 @@ pub fn power_at(bank_f: &[f64], n: usize, k: usize) -> f64
 }
 
 // The smoothed power d channels below k, and d above, wrapping.
-pub fn power_below(bank_f: &[f64], n: usize, k: usize, d: usize) -> f64
+fn power_below(bank_f: &[f64], n: usize, k: usize, d: usize) -> f64
     requires { ⌜ (n ≤ 512) × (length (now «bank_f») ≡ bankFLen n) × (k < n) × (d ≤ 4) ⌝ }
     ensures { λ r. ⌜ r ≡ getD (part (2 * n) n (now («bank_f» .entry))) (below n k d) f0 ⌝ }
 {
     power_at(bank_f, n, (k + 4 * n - d) % n)
 }
 
-pub fn power_above(bank_f: &[f64], n: usize, k: usize, d: usize) -> f64
+fn power_above(bank_f: &[f64], n: usize, k: usize, d: usize) -> f64
     requires { ⌜ (n ≤ 512) × (length (now «bank_f») ≡ bankFLen n) × (k < n) × (d ≤ 4) ⌝ }
     ensures { λ r. ⌜ r ≡ getD (part (2 * n) n (now («bank_f» .entry))) (above n k d) f0 ⌝ }
 {

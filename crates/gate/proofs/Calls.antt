@@ -1,68 +1,41 @@
 -- The gate's calls: what one that is not refused has shown, and what each answers and leaves. Assumes nothing.
 use mathlib.Core.Path.{_≡_, refl, sym, ap, subst, _∙_}
-use mathlib.Core.Bool.{not, _||_}
+use mathlib.Core.Bool.{_||_}
 use mathlib.Core.List.{List}
-use Prim.Native.Nat.{ℕ, zero, suc, _<_}
+use Prim.Native.Nat.{ℕ, zero, suc}
 use native.Mathlib.Omega.{arith}
-use lib.Dec.{ltb}
 use lib.ListN.{length, getD}
 use lib.Ieee.{Float}
-use borrow.Author.Tests.{ltb-true, not-false}
-use Rattle.laws.specs.Lists.{one}
-use Rattle.laws.specs.Tests.{differ, first}
+use Rattle.laws.specs.Tests.{differ}
 use Rattle.laws.proofs.Tests.{neither, passed, same-of, or-l, or-r}
 use Rattle.model.specs.Bank.{FloorBank}
 use Rattle.model.specs.Stores.{bankOf}
-use Rattle.model.specs.Refusals.{bankRefusal}
 use Rattle.model.specs.Gate.{Gate, gateStep}
 use Rattle.model.specs.GateStores.{gateOf}
-use Rattle.model.specs.GateCalls.{GateHop, gateRefusal, pairRefusal, gateUpdateRefusal, holdRefusal, gateLeaves, marksOf, gateUpdate, gateHold}
-use Rattle.model.proofs.GoodBanks.{ready}
-use Rattle.model.specs.GoodGate.{GoodGate, GateReady}
-use Rattle.gate_sound.specs.Checks.{smoothedRefusal, earlyRefusal}
-use Rattle.model.proofs.GoodGates.{gate-ready, n-of}
+use Rattle.model.specs.GateCalls.{GateHop, pairRefusal, gateUpdateRefusal, holdRefusal, gateLeaves, marksOf, gateUpdate, gateHold}
+use Rattle.model.specs.GoodGate.{GoodGate}
+use Rattle.model.proofs.GoodGates.{n-of}
 use Rattle.model.proofs.FreshGates.{good-gate-step}
 use Rattle.gate_step.proofs.Looks.{held-ready, held-is}
 use Rattle.gate_cursors.specs.Paired.{Paired, Marked}
+use Rattle.gate_cursors.proofs.Pairs.{paired}
 use Rattle.gate_step.specs.Steps.{Holds}
-
--- ---- what a call that is not refused has shown
-
-below-n : (k n : ℕ) → first (not (ltb k n)) 7 0 ≡ 0 → k < n
-below-n k n e = ltb-true k n (not-false (ltb k n) (passed (not (ltb k n)) 7 0 (omega arith) e .0))
-
--- a smoothed dB that is not refused
-pub readable-gate : (u : List ℕ) (f : List Float) (k : ℕ) → smoothedRefusal u f k ≡ 0 → GateReady u f × (k < getD u 0 0)
-readable-gate u f k e =
-    let a = neither (gateRefusal u f) _ e in
-    (gate-ready u f (a .0), below-n k (getD u 0 0) (a .1))
 
 -- a refusal leaves the marks
 unmarked : (x : ℕ) (g : Gate) (b : FloorBank) (rise drop : List ℕ) → (x ≡ 0 → ⊥) → (rise, drop) ≡ marksOf x g b rise drop
 unmarked zero g b rise drop z = absurd (z refl)
 unmarked (suc x) g b rise drop z = refl
 
+-- ---- what a call that is not refused has shown
+
 module _ (bu : List ℕ) (bf : List Float) (gu : List ℕ) (gf : List Float) where
-  pub paired : pairRefusal bu bf gu gf ≡ 0 → Paired bu bf gu gf
-  unfolding pairRefusal
-  paired e =
-      let a = neither (bankRefusal bu bf) _ e in
-      let b = neither (gateRefusal gu gf) _ (a .1) in
-      let c = passed (differ (getD bu 0 0) (getD gu 0 0)) 8 0 (omega arith) (b .1) in
-      record { bank = ready bu bf (a .0); gate = gate-ready gu gf (b .0); same = same-of (getD bu 0 0) (getD gu 0 0) (c .0) }
-
-  pub readable-pair : (k : ℕ) → earlyRefusal bu bf gu gf k ≡ 0 → Paired bu bf gu gf × (k < getD gu 0 0)
-  readable-pair k e =
-      let a = neither (pairRefusal bu bf gu gf) _ e in
-      (paired (a .0), below-n k (getD gu 0 0) (a .1))
-
   pub hold-asked : (rise drop : ℕ) → holdRefusal bu bf gu gf rise drop ≡ 0 → Paired bu bf gu gf × (rise ≡ getD gu 0 0) × (drop ≡ getD gu 0 0)
   unfolding holdRefusal
   hold-asked rise drop e =
       let n = getD gu 0 0 in
       let a = neither (pairRefusal bu bf gu gf) _ e in
       let t = passed (differ rise n || differ drop n) 5 0 (omega arith) (a .1) .0 in
-      (paired (a .0), same-of rise n (or-l (differ rise n) (differ drop n) t), same-of drop n (or-r (differ rise n) (differ drop n) t))
+      (paired bu bf gu gf (a .0), same-of rise n (or-l (differ rise n) (differ drop n) t), same-of drop n (or-r (differ rise n) (differ drop n) t))
 
   pub update-asked : (db power rise drop : ℕ) → gateUpdateRefusal bu bf gu gf db power rise drop ≡ 0
       → Paired bu bf gu gf × (db ≡ getD gu 0 0) × (power ≡ getD gu 0 0) × (rise ≡ getD gu 0 0) × (drop ≡ getD gu 0 0)
@@ -73,7 +46,7 @@ module _ (bu : List ℕ) (bf : List Float) (gu : List ℕ) (gf : List Float) whe
       let t = passed (differ db n || differ power n || differ rise n || differ drop n) 5 0 (omega arith) (a .1) .0 in
       let t₃ = or-l (differ db n || differ power n || differ rise n) (differ drop n) t in
       let t₂ = or-l (differ db n || differ power n) (differ rise n) t₃ in (
-        paired (a .0),
+        paired bu bf gu gf (a .0),
         same-of db n (or-l (differ db n) (differ power n) t₂),
         same-of power n (or-r (differ db n) (differ power n) t₂),
         same-of rise n (or-r (differ db n || differ power n) (differ rise n) t₃),

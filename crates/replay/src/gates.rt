@@ -131,8 +131,8 @@ fn reading(
     k: usize,
 ) -> Reading {
     match kind {
-        0 => gate::smoothed_db(gate, gate_f, k),
-        _ => gate::ema_rise(bank, bank_f, gate, gate_f, k),
+        0 => gate_readings::smoothed_db(gate, gate_f, k),
+        _ => gate_readings::ema_rise(bank, bank_f, gate, gate_f, k),
     }
 }
 

@@ -64,7 +64,7 @@ pub extern "C" fn wolfcloak_smoothed_db(
 ) -> u16
     ensures { λ r. ⌜ (r, now (value .exit)) ≡ answered (now (value .entry)) (smoothedReading (now (gate .entry)) (now («gate_f» .entry)) k) ⌝ }
 {
-    crate::take_apart(gate::smoothed_db(gate, gate_f, k), value)
+    crate::take_apart(gate_readings::smoothed_db(gate, gate_f, k), value)
 }
 
 #[no_mangle]
@@ -78,5 +78,8 @@ pub extern "C" fn wolfcloak_ema_rise(
 ) -> u16
     ensures { λ r. ⌜ (r, now (value .exit)) ≡ answered (now (value .entry)) (earlyReading (now (bank .entry)) (now («bank_f» .entry)) (now (gate .entry)) (now («gate_f» .entry)) k) ⌝ }
 {
-    crate::take_apart(gate::ema_rise(bank, bank_f, gate, gate_f, k), value)
+    crate::take_apart(
+        gate_readings::ema_rise(bank, bank_f, gate, gate_f, k),
+        value,
+    )
 }

@@ -12,10 +12,10 @@ use Rattle.model.specs.GateStores.{gateOf}
 use Rattle.model.specs.GateCalls.{earlyReading}
 use Rattle.readings.proofs.Answers.{refused, valued}
 use Rattle.model.proofs.GoodGates.{started-of}
-use Rattle.gate.proofs.Calls.{readable-pair}
+use Rattle.gate_readings.proofs.Asked.{readable-pair}
 use borrow.Author.Needs.{needs}
-use Rattle.gate.proofs.ema_rise.Statement.{statement}
-use Rattle.gate.proofs.ema_rise.Tie as tie
+use Rattle.gate_readings.proofs.ema_rise.Statement.{statement}
+use Rattle.gate_readings.proofs.ema_rise.Tie as tie
 
 early-refusal-requires : tie.Need-early-refusal-requires
 early-refusal-requires c κs = search needs

@@ -12,8 +12,8 @@ use Rattle.channel_readings.proofs.Places.{from-ready}
 use Rattle.gate_cursors.proofs.Lengths.{smooth-within}
 use Rattle.gate_marks.proofs.Marks.{early-is, no-mark, a-mark, before-first, after-first}
 use borrow.Author.Needs.{needs}
-use Rattle.gate.proofs.early_mark.Statement.{statement}
-use Rattle.gate.proofs.early_mark.Tie as tie
+use Rattle.gate_readings.proofs.early_mark.Statement.{statement}
+use Rattle.gate_readings.proofs.early_mark.Tie as tie
 
 shared-slice-read-if1 : tie.Need-shared-slice-read-if1
 shared-slice-read-if1 c = search needs

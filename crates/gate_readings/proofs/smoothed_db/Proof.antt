@@ -8,10 +8,10 @@ use Rattle.readings.proofs.Answers.{refused, valued}
 use Rattle.model.specs.GoodGate.{GateReady}
 use Rattle.gate_cursors.proofs.Lengths.{smooth-within}
 use Rattle.gate_marks.proofs.Marks.{smooth-at}
-use Rattle.gate.proofs.Calls.{readable-gate}
+use Rattle.gate_readings.proofs.Asked.{readable-gate}
 use borrow.Author.Needs.{needs}
-use Rattle.gate.proofs.smoothed_db.Statement.{statement}
-use Rattle.gate.proofs.smoothed_db.Tie as tie
+use Rattle.gate_readings.proofs.smoothed_db.Statement.{statement}
+use Rattle.gate_readings.proofs.smoothed_db.Tie as tie
 
 smoothed-refusal-requires : tie.Need-smoothed-refusal-requires
 smoothed-refusal-requires c κs = search needs
