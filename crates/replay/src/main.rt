@@ -1,19 +1,18 @@
 // Replays a kept list of calls of a bank and a gate and compares what floor.rs answered to them; tests/compare/README.md says how the list is made.
+mod banks;
 mod compare;
 mod gates;
 mod hop;
 mod list;
 mod records;
+mod state;
 
-use records::GATE_LEN;
-use records::MOST;
-use records::MOST_F_LEN;
-use records::MOST_GATE_F_LEN;
-use records::MOST_LEN;
-use records::Replay;
-
-// The records start behind the tables.
-const RECORDS: usize = 3072;
+use state::GATE_LEN;
+use state::MOST;
+use state::MOST_F_LEN;
+use state::MOST_GATE_F_LEN;
+use state::MOST_LEN;
+use state::Replay;
 
 const MOST_BYTES: usize = 500000;
 
@@ -27,14 +26,7 @@ fn replay_list(list: &[u8]) -> Replay {
     let mut gate_f = [0.0f64; MOST_GATE_F_LEN];
     let mut rise = [0u8; MOST];
     let mut drop = [0u8; MOST];
-    let mut r = Replay {
-        at: RECORDS,
-        n: 0,
-        floats: 0,
-        is_on: true,
-        records: 0,
-        differences: 0,
-    };
+    let mut r = state::started();
     let mut turns = list.len();
     while turns > 0 && r.is_on {
         r = records::replay_turn(
@@ -54,13 +46,20 @@ fn replay_list(list: &[u8]) -> Replay {
     r
 }
 
-fn main() {
-    let mut buffer = [0u8; MOST_BYTES];
-    let bytes = io::read_full(0, &mut buffer);
-    let r = replay_list(&buffer[..bytes]);
+fn replay_input(buffer: &mut [u8]) -> Replay {
+    let bytes = io::read_full(0, buffer);
+    replay_list(&buffer[..bytes])
+}
+
+fn print_counts(r: Replay) {
     io::write_all(1, b"replayed ");
     io::print_decimal(1, r.records);
     io::write_all(1, b" records, ");
     io::print_decimal(1, r.differences);
     io::write_all(1, b" differences\n");
+}
+
+fn main() {
+    let mut buffer = [0u8; MOST_BYTES];
+    print_counts(replay_input(&mut buffer));
 }
