@@ -4,12 +4,13 @@ use crate::compare::floors_differ;
 use crate::compare::one;
 use crate::compare::reading_differs;
 use crate::compare::sum_of;
-use crate::hop::fill_db;
-use crate::hop::fill_power;
+use crate::hop::fill_hop;
 use crate::list::after;
 use crate::list::index;
+use crate::list::least;
 use crate::list::wide;
 use crate::records::store_f_len;
+use crate::state::MOST;
 use crate::state::Replay;
 use crate::state::passed;
 use low_first::byte_at;
@@ -24,26 +25,26 @@ fn replay_new(list: &[u8], r: Replay, bank: &mut [u16], bank_f: &mut [f64]) -> R
     passed(r, 3, one(answer != wide(byte_at(list, r.at, 2))))
 }
 
-// The hop of a record: n rows of dB, n rows of power.
-fn fill_hop(list: &[u8], r: Replay, db: &mut [f64], power: &mut [f32]) {
-    let at = after(r.at, 2);
-    fill_db(list, at, db);
-    fill_power(list, after(at, index(r.n)), power);
-}
-
-// 2, hold, the hop, answer: one hop.
-fn replay_update(
+fn update(
     list: &[u8],
     r: Replay,
     bank: &mut [u16],
     bank_f: &mut [f64],
     db: &mut [f64],
     power: &mut [f32],
-) -> Replay {
-    fill_hop(list, r, db, power);
+) -> u16 {
+    fill_hop(list, r.hop, db, power);
     let hold = byte_at(list, r.at, 1) == 1;
-    let answer = bank::bank_update_holding_reference(bank, bank_f, db, power, hold);
-    let bytes = 2 + 2 * index(r.n);
+    bank::bank_update_holding_reference(bank, bank_f, db, power, hold)
+}
+
+// 2, hold, the hop, answer: one hop.
+fn replay_update(list: &[u8], r: Replay, bank: &mut [u16], bank_f: &mut [f64]) -> Replay {
+    let mut db = [0.0f64; MOST];
+    let mut power = [0.0f32; MOST];
+    let n = least(index(r.n), MOST);
+    let answer = update(list, r, bank, bank_f, &mut db[..n], &mut power[..n]);
+    let bytes = 2 + 2 * n;
     let due = wide(byte_at(list, r.at, bytes));
     passed(r, 1 + bytes, one(answer != due))
 }
@@ -87,12 +88,10 @@ pub fn replay_bank(
     kind: u8,
     bank: &mut [u16],
     bank_f: &mut [f64],
-    db: &mut [f64],
-    power: &mut [f32],
 ) -> Replay {
     match kind {
         1 => replay_new(list, r, bank, bank_f),
-        2 => replay_update(list, r, bank, bank_f, db, power),
+        2 => replay_update(list, r, bank, bank_f),
         3 => replay_reading(list, r, bank, bank_f),
         4 => replay_stores(list, r, bank, bank_f),
         _ => replay_floors(list, r, bank, bank_f),

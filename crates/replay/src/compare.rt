@@ -73,7 +73,11 @@ fn differing_floors(list: &[u8], at: usize, f: Floors) -> u64 {
 pub fn floors_differ(list: &[u8], at: usize, got: FloorsReading, refusal: u16) -> u64 {
     match got {
         FloorsReading::Value(f) => {
-            if refusal != 0 { 3 } else { differing_floors(list, at, f) }
+            if refusal != 0 {
+                3
+            } else {
+                differing_floors(list, at, f)
+            }
         }
         FloorsReading::Refused(r) => one(r != refusal),
     }

@@ -4,9 +4,12 @@ use crate::compare::differing_bytes;
 use crate::compare::one;
 use crate::compare::reading_differs;
 use crate::compare::sum_of;
+use crate::hop::fill_hop;
 use crate::list::after;
 use crate::list::index;
+use crate::list::least;
 use crate::list::wide;
+use crate::state::MOST;
 use crate::state::Replay;
 use crate::state::ended;
 use crate::state::passed;
@@ -90,7 +93,51 @@ fn passed_marks(list: &[u8], r: Replay, answer: u16, rise: &[u8], drop: &[u8]) -
     passed(r, 2 + 2 * n, wrapping_add_u64(answers, marks))
 }
 
-// 7: a gate update with the hop that the bank heard last.
+fn update_by(
+    list: &[u8],
+    r: Replay,
+    bank: &[u16],
+    bank_f: &[f64],
+    gate: &mut [u16],
+    gate_f: &mut [f64],
+    db: &mut [f64],
+    power: &mut [f32],
+    rise: &mut [u8],
+    drop: &mut [u8],
+) -> u16 {
+    fill_hop(list, r.hop, db, power);
+    gate::gate_update(bank, bank_f, gate, gate_f, db, power, rise, drop)
+}
+
+// A gate update with the hop that the bank heard last.
+fn update(
+    list: &[u8],
+    r: Replay,
+    bank: &[u16],
+    bank_f: &[f64],
+    gate: &mut [u16],
+    gate_f: &mut [f64],
+    rise: &mut [u8],
+    drop: &mut [u8],
+) -> u16 {
+    let mut db = [0.0f64; MOST];
+    let mut power = [0.0f32; MOST];
+    let n = least(index(r.n), MOST);
+    update_by(
+        list,
+        r,
+        bank,
+        bank_f,
+        gate,
+        gate_f,
+        &mut db[..n],
+        &mut power[..n],
+        rise,
+        drop,
+    )
+}
+
+// 7: a gate update.
 fn replay_gate_update(
     list: &[u8],
     r: Replay,
@@ -98,12 +145,10 @@ fn replay_gate_update(
     bank_f: &[f64],
     gate: &mut [u16],
     gate_f: &mut [f64],
-    db: &[f64],
-    power: &[f32],
     rise: &mut [u8],
     drop: &mut [u8],
 ) -> Replay {
-    let answer = gate::gate_update(bank, bank_f, gate, gate_f, db, power, rise, drop);
+    let answer = update(list, r, bank, bank_f, gate, gate_f, rise, drop);
     passed_marks(list, r, answer, rise, drop)
 }
 
@@ -166,8 +211,6 @@ pub fn replay_gate(
     kind: u8,
     bank: &[u16],
     bank_f: &[f64],
-    db: &[f64],
-    power: &[f32],
     gate: &mut [u16],
     gate_f: &mut [f64],
     rise: &mut [u8],
@@ -175,7 +218,7 @@ pub fn replay_gate(
 ) -> Replay {
     match kind {
         6 => replay_gate_new(list, r, gate, gate_f),
-        7 => replay_gate_update(list, r, bank, bank_f, gate, gate_f, db, power, rise, drop),
+        7 => replay_gate_update(list, r, bank, bank_f, gate, gate_f, rise, drop),
         8 => replay_gate_hold(list, r, bank, bank_f, gate, gate_f, rise, drop),
         9 => replay_gate_reading(list, r, bank, bank_f, gate, gate_f),
         _ => replay_gate_stores(list, r, gate, gate_f),

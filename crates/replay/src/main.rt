@@ -20,8 +20,6 @@ const MOST_BYTES: usize = 500000;
 fn replay_list(list: &[u8]) -> Replay {
     let mut bank = [0u16; MOST_LEN];
     let mut bank_f = [0.0f64; MOST_F_LEN];
-    let mut db = [0.0f64; MOST];
-    let mut power = [0.0f32; MOST];
     let mut gate = [0u16; GATE_LEN];
     let mut gate_f = [0.0f64; MOST_GATE_F_LEN];
     let mut rise = [0u8; MOST];
@@ -34,8 +32,6 @@ fn replay_list(list: &[u8]) -> Replay {
             r,
             &mut bank,
             &mut bank_f,
-            &mut db,
-            &mut power,
             &mut gate,
             &mut gate_f,
             &mut rise,

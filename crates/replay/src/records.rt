@@ -32,8 +32,6 @@ fn replay_record(
     r: Replay,
     bank: &mut [u16],
     bank_f: &mut [f64],
-    db: &mut [f64],
-    power: &mut [f32],
     gate: &mut [u16],
     gate_f: &mut [f64],
     rise: &mut [u8],
@@ -41,20 +39,8 @@ fn replay_record(
 ) -> Replay {
     let kind = byte_at(list, r.at, 0);
     match kind {
-        1..=5 => replay_bank(list, r, kind, bank, bank_f, db, power),
-        6..=10 => replay_gate(
-            list,
-            r,
-            kind,
-            bank,
-            bank_f,
-            db,
-            power,
-            gate,
-            gate_f,
-            rise,
-            drop,
-        ),
+        1..=5 => replay_bank(list, r, kind, bank, bank_f),
+        6..=10 => replay_gate(list, r, kind, bank, bank_f, gate, gate_f, rise, drop),
         _ => ended(r),
     }
 }
@@ -65,8 +51,6 @@ fn replay_parts(
     r: Replay,
     bank: &mut [u16],
     bank_f: &mut [f64],
-    db: &mut [f64],
-    power: &mut [f32],
     gate: &mut [u16],
     gate_f: &mut [f64],
     rise: &mut [u8],
@@ -74,8 +58,6 @@ fn replay_parts(
 ) -> Replay {
     let bank_len = least(store_len(r.n), bank.len());
     let bank_f_len = least(store_f_len(r.n), bank_f.len());
-    let dbs = least(index(r.n), db.len());
-    let powers = least(index(r.n), power.len());
     let floats = least(r.floats as usize, gate_f.len());
     let rises = least(index(r.n), rise.len());
     let drops = least(index(r.n), drop.len());
@@ -84,8 +66,6 @@ fn replay_parts(
         r,
         &mut bank[..bank_len],
         &mut bank_f[..bank_f_len],
-        &mut db[..dbs],
-        &mut power[..powers],
         gate,
         &mut gate_f[..floats],
         &mut rise[..rises],
@@ -99,8 +79,6 @@ pub fn replay_turn(
     r: Replay,
     bank: &mut [u16; MOST_LEN],
     bank_f: &mut [f64; MOST_F_LEN],
-    db: &mut [f64; MOST],
-    power: &mut [f32; MOST],
     gate: &mut [u16; GATE_LEN],
     gate_f: &mut [f64; MOST_GATE_F_LEN],
     rise: &mut [u8; MOST],
@@ -110,5 +88,5 @@ pub fn replay_turn(
     if !r.is_on {
         return r;
     }
-    replay_parts(list, r, bank, bank_f, db, power, gate, gate_f, rise, drop)
+    replay_parts(list, r, bank, bank_f, gate, gate_f, rise, drop)
 }

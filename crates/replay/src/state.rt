@@ -20,9 +20,10 @@ pub const MOST_GATE_F_LEN: usize = 2308;
 // The records start behind the tables.
 const RECORDS: usize = 3072;
 
-// n is the bank's; floats is how long the gate's f64 store is.
+// hop is where the hop stands that the bank heard last; n is the bank's; floats is how long the gate's f64 store is.
 pub struct Replay {
     pub at: usize,
+    pub hop: usize,
     pub n: u8,
     pub floats: u16,
     pub is_on: bool,
@@ -33,6 +34,7 @@ pub struct Replay {
 pub fn started() -> Replay {
     Replay {
         at: RECORDS,
+        hop: RECORDS,
         n: 0,
         floats: 0,
         is_on: true,
@@ -45,6 +47,7 @@ pub fn started() -> Replay {
 pub fn passed(r: Replay, bytes: usize, differences: u64) -> Replay {
     Replay {
         at: after(r.at, bytes),
+        hop: r.hop,
         n: r.n,
         floats: r.floats,
         is_on: true,
@@ -56,6 +59,15 @@ pub fn passed(r: Replay, bytes: usize, differences: u64) -> Replay {
 pub fn ended(mut r: Replay) -> Replay {
     r.is_on = false;
     r
+}
+
+// The hop of a bank's update stands behind the record's first two bytes.
+fn hop_of(list: &[u8], r: Replay) -> usize {
+    if byte_at(list, r.at, 0) == 2 {
+        after(r.at, 2)
+    } else {
+        r.hop
+    }
 }
 
 // How many channels the bank of the next record has.
@@ -80,13 +92,15 @@ fn fits(n: u8, floats: u16) -> bool {
     index(n) <= MOST && floats as usize <= MOST_GATE_F_LEN
 }
 
-// The replay with the sizes of the next record. A list that asks for more than there is has ended.
+// The replay with the hop and the sizes of the next record. A list that asks for more than there is has ended.
 pub fn sized(list: &[u8], mut r: Replay) -> Replay {
+    let hop = hop_of(list, r);
     let n = channels(list, r);
     let floats = gate_floats(list, r);
     if !fits(n, floats) {
         return ended(r);
     }
+    r.hop = hop;
     r.n = n;
     r.floats = floats;
     r

@@ -18,35 +18,23 @@ store-f-len-requires c κs = search needs
 least-requires-2 : tie.Need-least-requires-2
 least-requires-2 c κs = search needs
 
-index-requires : tie.Need-index-requires
-index-requires c κs = search needs
+cast-least : tie.Need-cast-least
+cast-least c = search needs
 
 least-requires-3 : tie.Need-least-requires-3
 least-requires-3 c κs = search needs
 
-index-requires-2 : tie.Need-index-requires-2
-index-requires-2 c κs = search needs
+index-requires : tie.Need-index-requires
+index-requires c κs = search needs
 
 least-requires-4 : tie.Need-least-requires-4
 least-requires-4 c κs = search needs
 
-cast-least : tie.Need-cast-least
-cast-least c = search needs
+index-requires-2 : tie.Need-index-requires-2
+index-requires-2 c κs = search needs
 
 least-requires-5 : tie.Need-least-requires-5
 least-requires-5 c κs = search needs
-
-index-requires-3 : tie.Need-index-requires-3
-index-requires-3 c κs = search needs
-
-least-requires-6 : tie.Need-least-requires-6
-least-requires-6 c κs = search needs
-
-index-requires-4 : tie.Need-index-requires-4
-index-requires-4 c κs = search needs
-
-least-requires-7 : tie.Need-least-requires-7
-least-requires-7 c κs = search needs
 
 slice-relend-prefix-replay-record : tie.Need-slice-relend-prefix-replay-record
 slice-relend-prefix-replay-record c = search needs
@@ -78,18 +66,6 @@ slice-relend-prefix-replay-record-5 c = search needs
 slice-aggregate-replay-record-5 : tie.Need-slice-aggregate-replay-record-5
 slice-aggregate-replay-record-5 c = sym (length-take-le _ _ (omega arith))
 
-slice-relend-prefix-replay-record-6 : tie.Need-slice-relend-prefix-replay-record-6
-slice-relend-prefix-replay-record-6 c = search needs
-
-slice-aggregate-replay-record-6 : tie.Need-slice-aggregate-replay-record-6
-slice-aggregate-replay-record-6 c = sym (length-take-le _ _ (omega arith))
-
-slice-relend-prefix-replay-record-7 : tie.Need-slice-relend-prefix-replay-record-7
-slice-relend-prefix-replay-record-7 c = search needs
-
-slice-aggregate-replay-record-7 : tie.Need-slice-aggregate-replay-record-7
-slice-aggregate-replay-record-7 c = sym (length-take-le _ _ (omega arith))
-
 replay-record-requires : tie.Need-replay-record-requires
 replay-record-requires c κs = search needs
 
@@ -111,12 +87,6 @@ same-length-5 c = search needs
 same-length-6 : tie.Need-same-length-6
 same-length-6 c = search needs
 
-same-length-7 : tie.Need-same-length-7
-same-length-7 c = search needs
-
-same-length-8 : tie.Need-same-length-8
-same-length-8 c = search needs
-
 returns : tie.Need-returns
 returns c = search needs
 
@@ -128,16 +98,12 @@ replay-parts-spec =
     least-requires
     store-f-len-requires
     least-requires-2
-    index-requires
-    least-requires-3
-    index-requires-2
-    least-requires-4
     cast-least
+    least-requires-3
+    index-requires
+    least-requires-4
+    index-requires-2
     least-requires-5
-    index-requires-3
-    least-requires-6
-    index-requires-4
-    least-requires-7
     slice-relend-prefix-replay-record
     slice-aggregate-replay-record
     slice-relend-prefix-replay-record-2
@@ -148,10 +114,6 @@ replay-parts-spec =
     slice-aggregate-replay-record-4
     slice-relend-prefix-replay-record-5
     slice-aggregate-replay-record-5
-    slice-relend-prefix-replay-record-6
-    slice-aggregate-replay-record-6
-    slice-relend-prefix-replay-record-7
-    slice-aggregate-replay-record-7
     replay-record-requires
     same-length
     same-length-2
@@ -159,6 +121,4 @@ replay-parts-spec =
     same-length-4
     same-length-5
     same-length-6
-    same-length-7
-    same-length-8
     returns)
