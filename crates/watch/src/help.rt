@@ -1,8 +1,7 @@
 // What the program says of itself, and of a word that it cannot take.
 use libc::STDERR_FILENO;
 use libc::STDOUT_FILENO;
-use watch_core::words;
-use watch_core::words::Settings;
+use watch_words::Settings;
 
 fn say(text: &[u8]) {
     io::write_all(STDOUT_FILENO, text);
@@ -54,13 +53,15 @@ fn cry(text: &[u8]) {
 
 fn print_reason(fault: u8) {
     match fault {
-        words::UNKNOWN => cry(b" is no option; watch --help lists them\n"),
-        words::BAD_LEVEL => cry(b" is no level: whole eighths of a dB from -100 to 100, as 6.5\n"),
-        words::BAD_LENGTHS => cry(
+        watch_words::UNKNOWN => cry(b" is no option; watch --help lists them\n"),
+        watch_words::BAD_LEVEL => cry(
+            b" is no level: whole eighths of a dB from -100 to 100, as 6.5\n",
+        ),
+        watch_words::BAD_LENGTHS => cry(
             b" is no list of one to eight lengths of 1 to 375 hops, as 15,75,375\n",
         ),
-        words::NO_VALUE => cry(b" is the last word and needs a value\n"),
-        words::SECOND_FILE => cry(b" is a second recording; watch takes one\n"),
+        watch_words::NO_VALUE => cry(b" is the last word and needs a value\n"),
+        watch_words::SECOND_FILE => cry(b" is a second recording; watch takes one\n"),
         _ => cry(b" is too long\n"),
     }
 }

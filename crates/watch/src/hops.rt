@@ -6,8 +6,8 @@ use watch_core::recording::MOST_HOP_BYTES;
 use watch_core::recording::Place;
 use watch_core::recording::Step;
 use watch_core::states;
-use watch_core::words::Settings;
-use watch_core::words::signed;
+use watch_levels::signed;
+use watch_words::Settings;
 
 fn wide(n: u16) -> usize {
     n as usize

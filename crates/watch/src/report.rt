@@ -8,17 +8,16 @@ use model::Reading;
 use watch_core::recording;
 use watch_core::recording::Place;
 use watch_core::states;
-use watch_core::text;
-use watch_core::text::LINE;
-use watch_core::text::put_db;
-use watch_core::text::put_number;
-use watch_core::text::put_power;
-use watch_core::text::put_right;
-use watch_core::text::put_seconds;
-use watch_core::text::put_text;
-use watch_core::text::put_thousandths;
-use watch_core::words::Level;
-use watch_core::words::Settings;
+use watch_floats::put_db;
+use watch_floats::put_power;
+use watch_levels::Level;
+use watch_text::LINE;
+use watch_text::put_number;
+use watch_text::put_right;
+use watch_text::put_seconds;
+use watch_text::put_text;
+use watch_text::put_thousandths;
+use watch_words::Settings;
 
 fn write_part(fd: i32, line: &[u8], end: usize) {
     if end <= line.len() {

@@ -1,7 +1,7 @@
 // The stores that a recording needs, on the stack, and their parts.
 use crate::hops;
 use crate::report;
-use watch_core::words::Settings;
+use watch_words::Settings;
 
 // A bank of 512 channels.
 const MOST_BANK: usize = 273427;

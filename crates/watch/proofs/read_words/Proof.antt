@@ -6,8 +6,8 @@ use Rattle.watch.proofs.read_words.Reads as reads
 use Rattle.watch.proofs.read_words.Lts as lts
 use Rattle.os.proofs.arg_count.Reads as arg-count-reads
 use Rattle.watch.proofs.read_word.Reads as read-word-reads
-use Rattle.watch_core.proofs.words.default_settings.Reads as default-settings-reads
-use Rattle.watch_core.proofs.words.taken.Reads as taken-reads
+use Rattle.watch_words.proofs.default_settings.Reads as default-settings-reads
+use Rattle.watch_words.proofs.taken.Reads as taken-reads
 
 abbrev Inv-loop : tie.InvT-loop
 Inv-loop lengths₀ s₀ i₀ i-end lengths s i = Unit {0}

@@ -7,8 +7,8 @@ use Rattle.watch.proofs.report.put_lengths.Tie as tie
 use Rattle.watch.proofs.report.put_lengths.Reads as reads
 use Rattle.watch.proofs.report.put_lengths.Lts as lts
 use Rattle.watch.proofs.report.wide.Reads as wide-reads
-use Rattle.watch_core.proofs.text.put_number.Reads as put-number-reads
-use Rattle.watch_core.proofs.text.put_text.Reads as put-text-reads
+use Rattle.watch_text.proofs.put_number.Reads as put-number-reads
+use Rattle.watch_text.proofs.put_text.Reads as put-text-reads
 
 abbrev Inv-loop : tie.InvT-loop
 Inv-loop line₀ at lengths end₀ i₀ t6 i-end line end i = i-end ≡ length lengths
