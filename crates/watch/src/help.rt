@@ -8,6 +8,13 @@ fn say(text: &[u8]) {
 }
 
 pub fn print_help() {
+    print_levels();
+    print_options();
+    print_recording();
+    print_report();
+}
+
+fn print_levels() {
     say(
         b"watch [OPTIONS] FILE    which channels of a recording are alive; FILE - is standard input\n\n",
     );
@@ -20,6 +27,9 @@ pub fn print_help() {
     say(
         b"  --early DB     it also rises at once at DB over its effective floor, or: none    (none)\n",
     );
+}
+
+fn print_options() {
     say(
         b"  --lengths LIST up to eight window lengths of 1 to 375 hops, with commas   (15,75,375)\n",
     );
@@ -28,6 +38,9 @@ pub fn print_help() {
     );
     say(b"  --csv          a line per slow hop (every 15th) and channel, for tools/plot.py\n");
     say(b"  --help         this text\n\n");
+}
+
+fn print_recording() {
     say(
         b"Levels are whole eighths of a dB from -100 to 100, as 8, 6.5 or -1.125. 375 hops are a second.\n\n",
     );
@@ -38,6 +51,9 @@ pub fn print_help() {
         b"is heard, so the reference and the gate hold; else 0), n dB values (f64) and n linear powers (f32). The lowest\n",
     );
     say(b"byte of each number is first.\n\n");
+}
+
+fn print_report() {
     say(
         b"It prints the settings, a line for each change of a channel's state, and at the end the floors of each channel and\n",
     );

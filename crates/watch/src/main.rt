@@ -1,7 +1,5 @@
 // watch: which channels of a recording are alive. `watch --help` says how it is used.
 mod help;
-mod hops;
-mod report;
 mod stores_of;
 
 use libc::STDERR_FILENO;

@@ -1,0 +1,7 @@
+// What the program `watch` prints of a recording.
+pub mod faults;
+mod figures;
+pub mod head;
+pub mod lines;
+mod out;
+pub mod tail;
