@@ -42,9 +42,14 @@ fn replay_list(list: &[u8]) -> Replay {
     r
 }
 
-fn replay_input(buffer: &mut [u8]) -> Replay {
+fn replay_bytes(buffer: &mut [u8]) -> Replay {
     let bytes = io::read_full(0, buffer);
     replay_list(&buffer[..bytes])
+}
+
+// On the whole array, whose length needs no proof.
+fn replay_input(buffer: &mut [u8; MOST_BYTES]) -> Replay {
+    replay_bytes(buffer)
 }
 
 fn print_counts(r: Replay) {

@@ -1,9 +1,9 @@
 // One hop: its values, and what the bank and the gate answer to them.
-ghost use Prim.Native.Nat.{_≤_};
 use watch_core::recording;
 use watch_core::recording::MOST;
 use watch_core::recording::MOST_HOP_BYTES;
 use watch_core::recording::Step;
+use watch_figures::least;
 
 // What became of a hop.
 pub enum Heard {
@@ -17,13 +17,6 @@ pub enum Heard {
     Refused(u16),
     // Both took the hop.
     Taken,
-}
-
-// As many as are asked for, or as many as there are.
-pub fn least(asked: usize, there: usize) -> usize
-    ensures { λ r. ⌜ r ≤ there ⌝ }
-{
-    if asked < there { asked } else { there }
 }
 
 // What could be read of a hop, with its values.

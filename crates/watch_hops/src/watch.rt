@@ -1,11 +1,11 @@
 // The hops one after another: heard, reported and counted.
 use crate::hear::Heard;
 use crate::hear::hear;
-use crate::hear::least;
 use watch_core::recording;
 use watch_core::recording::MOST;
 use watch_core::recording::Place;
 use watch_core::states;
+use watch_figures::least;
 use watch_report::faults;
 use watch_report::lines;
 use watch_report::tail;

@@ -1,10 +1,10 @@
 // What is wrong with a recording, on standard error, with the hop and the byte.
-use crate::figures::end_byte;
-use crate::figures::wide;
 use crate::out::cry;
 use libc::STDERR_FILENO;
 use watch_core::recording;
 use watch_core::recording::Place;
+use watch_figures::end_byte;
+use watch_figures::wide;
 use watch_text::LINE;
 use watch_text::put_number;
 use watch_text::put_text;

@@ -1,8 +1,8 @@
 // The head of a report: the settings, or the names of the columns.
-use crate::figures::thousandths;
-use crate::figures::wide;
 use crate::out::say;
 use libc::STDOUT_FILENO;
+use watch_figures::thousandths;
+use watch_figures::wide;
 use watch_levels::Level;
 use watch_text::LINE;
 use watch_text::put_number;

@@ -1,6 +1,5 @@
 // What the program `watch` prints of a recording.
 pub mod faults;
-mod figures;
 pub mod head;
 pub mod lines;
 mod out;

@@ -1,15 +1,15 @@
 // What a hop gives to print: a line for each change, or on a slow hop one for each channel.
-use crate::figures::bit;
-use crate::figures::ends_minute;
-use crate::figures::float_at;
-use crate::figures::floors_of;
-use crate::figures::value;
-use crate::figures::whole_seconds;
 use crate::out::cry;
 use crate::out::put_reference;
 use crate::out::say;
 use watch_core::recording;
 use watch_core::states;
+use watch_figures::bit;
+use watch_figures::ends_minute;
+use watch_figures::float_at;
+use watch_figures::floors_of;
+use watch_figures::value;
+use watch_figures::whole_seconds;
 use watch_floats::put_db;
 use watch_floats::put_power;
 use watch_text::LINE;

@@ -1,7 +1,7 @@
 // Lines on standard output and standard error.
-use crate::figures::value;
 use libc::STDERR_FILENO;
 use libc::STDOUT_FILENO;
+use watch_figures::value;
 use watch_floats::put_power;
 use watch_text::LINE;
 

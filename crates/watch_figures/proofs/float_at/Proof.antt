@@ -4,8 +4,8 @@ use lib.Ieee.{nan}
 use lib.ListN.{List·getD-eq-default}
 use denote.Ref
 use borrow.Author.Needs.{needs}
-use Rattle.watch_report.proofs.figures.float_at.Statement.{statement}
-use Rattle.watch_report.proofs.figures.float_at.Tie as tie
+use Rattle.watch_figures.proofs.float_at.Statement.{statement}
+use Rattle.watch_figures.proofs.float_at.Tie as tie
 
 no-number-requires : tie.Need-no-number-requires
 no-number-requires c κs = search needs

@@ -1,7 +1,7 @@
 use mathlib.Core.Path.{refl}
 use lib.Ieee.{div, ofBits}
-use Rattle.watch_report.proofs.figures.no_number.Statement.{statement}
-use Rattle.watch_report.proofs.figures.no_number.Tie as tie
+use Rattle.watch_figures.proofs.no_number.Statement.{statement}
+use Rattle.watch_figures.proofs.no_number.Tie as tie
 
 returns : tie.Need-returns
 unfolding div ofBits

@@ -1,6 +1,6 @@
 use borrow.Author.Tests.{ne-eqb}
-use Rattle.watch_report.proofs.figures.ends_minute.Statement.{statement}
-use Rattle.watch_report.proofs.figures.ends_minute.Tie as tie
+use Rattle.watch_figures.proofs.ends_minute.Statement.{statement}
+use Rattle.watch_figures.proofs.ends_minute.Tie as tie
 
 returns : tie.Need-returns
 returns c = simp (c .if1 .taken)

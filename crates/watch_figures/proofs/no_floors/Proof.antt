@@ -2,8 +2,8 @@ use mathlib.Core.Path.{ap}
 use lib.Ieee.{Float}
 use borrow.Author.Needs.{needs}
 use Rattle.model.specs.declared.Floors.{Floors}
-use Rattle.watch_report.proofs.figures.no_floors.Statement.{statement}
-use Rattle.watch_report.proofs.figures.no_floors.Tie as tie
+use Rattle.watch_figures.proofs.no_floors.Statement.{statement}
+use Rattle.watch_figures.proofs.no_floors.Tie as tie
 
 no-number-requires : tie.Need-no-number-requires
 no-number-requires c κs = search needs
