@@ -1,7 +1,9 @@
 // What a store and an answer are compared by.
 use crate::list::after;
-use crate::list::byte_at;
-use crate::list::double_at;
+use low_first::byte_at;
+use low_first::double_at;
+use model::Floors;
+use model::FloorsReading;
 use model::Reading;
 use std::num::wrapping_add_u64;
 
@@ -46,7 +48,7 @@ pub fn differing(list: &[u8], at: usize, floats: &[f64]) -> u64 {
 pub fn differing_bytes(list: &[u8], at: usize, bytes: &[u8]) -> u64 {
     let mut count = 0;
     for i in 0..bytes.len() {
-        count = wrapping_add_u64(count, one(bytes[i] != byte_at(list, after(at, i))));
+        count = wrapping_add_u64(count, one(bytes[i] != byte_at(list, at, i)));
     }
     count
 }
@@ -56,5 +58,27 @@ pub fn reading_differs(got: Reading, refusal: u16, value: f64) -> u64 {
     match got {
         Reading::Value(x) => one(refusal != 0 || !same(x, value)),
         Reading::Refused(r) => one(r != refusal),
+    }
+}
+
+// How many of three floors are not the ones that are due, which stand at `at`.
+fn differing_floors(list: &[u8], at: usize, f: Floors) -> u64 {
+    let effective = one(!same(f.effective, double_at(list, at)));
+    let rise = one(!same(f.rise, double_at(list, after(at, 8))));
+    let raw = one(!same(f.raw, double_at(list, after(at, 16))));
+    wrapping_add_u64(wrapping_add_u64(effective, rise), raw)
+}
+
+// The same for a reading of the floors; 3 where a refusal is due.
+pub fn floors_differ(list: &[u8], at: usize, got: FloorsReading, refusal: u16) -> u64 {
+    match got {
+        FloorsReading::Value(f) => {
+            if refusal != 0 {
+                3
+            } else {
+                differing_floors(list, at, f)
+            }
+        }
+        FloorsReading::Refused(r) => one(r != refusal),
     }
 }

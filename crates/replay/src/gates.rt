@@ -4,16 +4,19 @@ use crate::compare::differing_bytes;
 use crate::compare::one;
 use crate::compare::reading_differs;
 use crate::compare::sum_of;
+use crate::hop::fill_hop;
 use crate::list::after;
-use crate::list::byte_at;
-use crate::list::double_at;
-use crate::list::eight_bytes;
 use crate::list::index;
-use crate::list::word_at;
-use crate::records::Replay;
-use crate::records::ended;
-use crate::records::passed;
-use crate::records::wide;
+use crate::list::least;
+use crate::list::wide;
+use crate::state::MOST;
+use crate::state::Replay;
+use crate::state::ended;
+use crate::state::passed;
+use low_first::byte_at;
+use low_first::double_at;
+use low_first::eight_bytes;
+use low_first::two_bytes;
 use model::Reading;
 use std::num::wrapping_add_u64;
 
@@ -22,7 +25,7 @@ const MOST_LENGTHS: usize = 9;
 
 // A level is written with 800 added, an absent one as it is handed over. Bits turned over, y is -1 - y.
 fn level_at(list: &[u8], at: usize) -> i32 {
-    let x = word_at(list, at);
+    let x = two_bytes(list, at);
     if x == 65535 {
         return 65535;
     }
@@ -34,7 +37,7 @@ fn level_at(list: &[u8], at: usize) -> i32 {
 
 fn fill_lengths(list: &[u8], at: usize, lengths: &mut [u16]) {
     for i in 0..lengths.len() {
-        lengths[i] = word_at(list, after(at, i * 2));
+        lengths[i] = two_bytes(list, after(at, i * 2));
     }
 }
 
@@ -43,7 +46,7 @@ fn made(list: &[u8], at: usize, gate: &mut [u16], gate_f: &mut [f64], lengths: &
     gate_making::gate_new(
         gate,
         gate_f,
-        index(byte_at(list, after(at, 1))),
+        index(byte_at(list, at, 1)),
         level_at(list, after(at, 4)),
         level_at(list, after(at, 6)),
         level_at(list, after(at, 8)),
@@ -63,14 +66,14 @@ fn make_gate(
     fill_lengths(list, after(r.at, 11), lengths);
     let answer = made(list, r.at, gate, gate_f, lengths);
     let bytes = 2 * index(count);
-    let due = byte_at(list, after(r.at, 11 + bytes));
-    passed(r, 12 + bytes, one(answer != wide(due)))
+    let due = wide(byte_at(list, r.at, 11 + bytes));
+    passed(r, 12 + bytes, one(answer != due))
 }
 
 // A list that asks for more lengths has ended.
-pub fn replay_gate_new(list: &[u8], r: Replay, gate: &mut [u16], gate_f: &mut [f64]) -> Replay {
+fn replay_gate_new(list: &[u8], r: Replay, gate: &mut [u16], gate_f: &mut [f64]) -> Replay {
     let mut lengths = [0u16; MOST_LENGTHS];
-    let count = byte_at(list, after(r.at, 10));
+    let count = byte_at(list, r.at, 10);
     let n = index(count);
     if n > MOST_LENGTHS {
         return ended(r);
@@ -82,7 +85,7 @@ pub fn replay_gate_new(list: &[u8], r: Replay, gate: &mut [u16], gate_f: &mut [f
 fn passed_marks(list: &[u8], r: Replay, answer: u16, rise: &[u8], drop: &[u8]) -> Replay {
     let n = index(r.n);
     let at = after(r.at, 2);
-    let answers = one(answer != wide(byte_at(list, after(r.at, 1))));
+    let answers = one(answer != wide(byte_at(list, r.at, 1)));
     let marks = wrapping_add_u64(
         differing_bytes(list, at, rise),
         differing_bytes(list, after(at, n), drop),
@@ -90,25 +93,67 @@ fn passed_marks(list: &[u8], r: Replay, answer: u16, rise: &[u8], drop: &[u8]) -
     passed(r, 2 + 2 * n, wrapping_add_u64(answers, marks))
 }
 
-// 7: a gate update with the hop that the bank heard last.
-pub fn replay_gate_update(
+fn update_by(
     list: &[u8],
     r: Replay,
     bank: &[u16],
     bank_f: &[f64],
     gate: &mut [u16],
     gate_f: &mut [f64],
-    db: &[f64],
-    power: &[f32],
+    db: &mut [f64],
+    power: &mut [f32],
+    rise: &mut [u8],
+    drop: &mut [u8],
+) -> u16 {
+    fill_hop(list, r.hop, db, power);
+    gate::gate_update(bank, bank_f, gate, gate_f, db, power, rise, drop)
+}
+
+// A gate update with the hop that the bank heard last.
+fn update(
+    list: &[u8],
+    r: Replay,
+    bank: &[u16],
+    bank_f: &[f64],
+    gate: &mut [u16],
+    gate_f: &mut [f64],
+    rise: &mut [u8],
+    drop: &mut [u8],
+) -> u16 {
+    let mut db = [0.0f64; MOST];
+    let mut power = [0.0f32; MOST];
+    let n = least(index(r.n), MOST);
+    update_by(
+        list,
+        r,
+        bank,
+        bank_f,
+        gate,
+        gate_f,
+        &mut db[..n],
+        &mut power[..n],
+        rise,
+        drop,
+    )
+}
+
+// 7: a gate update.
+fn replay_gate_update(
+    list: &[u8],
+    r: Replay,
+    bank: &[u16],
+    bank_f: &[f64],
+    gate: &mut [u16],
+    gate_f: &mut [f64],
     rise: &mut [u8],
     drop: &mut [u8],
 ) -> Replay {
-    let answer = gate::gate_update(bank, bank_f, gate, gate_f, db, power, rise, drop);
+    let answer = update(list, r, bank, bank_f, gate, gate_f, rise, drop);
     passed_marks(list, r, answer, rise, drop)
 }
 
 // 8: a hold.
-pub fn replay_gate_hold(
+fn replay_gate_hold(
     list: &[u8],
     r: Replay,
     bank: &[u16],
@@ -137,7 +182,7 @@ fn reading(
 }
 
 // 9, kind, k, answer, value: a reading.
-pub fn replay_gate_reading(
+fn replay_gate_reading(
     list: &[u8],
     r: Replay,
     bank: &[u16],
@@ -145,23 +190,37 @@ pub fn replay_gate_reading(
     gate: &[u16],
     gate_f: &[f64],
 ) -> Replay {
-    let k = index(byte_at(list, after(r.at, 2)));
-    let got = reading(bank, bank_f, gate, gate_f, byte_at(list, after(r.at, 1)), k);
-    let due = wide(byte_at(list, after(r.at, 3)));
-    passed(
-        r,
-        12,
-        reading_differs(got, due, double_at(list, after(r.at, 4))),
-    )
+    let k = index(byte_at(list, r.at, 2));
+    let got = reading(bank, bank_f, gate, gate_f, byte_at(list, r.at, 1), k);
+    let due = wide(byte_at(list, r.at, 3));
+    let value = double_at(list, after(r.at, 4));
+    passed(r, 12, reading_differs(got, due, value))
 }
 
 // 10, the sum of the u16 store, the f64 store: what both hold.
-pub fn replay_gate_stores(list: &[u8], r: Replay, gate: &[u16], gate_f: &[f64]) -> Replay {
+fn replay_gate_stores(list: &[u8], r: Replay, gate: &[u16], gate_f: &[f64]) -> Replay {
     let sums = one(sum_of(gate) != eight_bytes(list, after(r.at, 1)));
     let floats = differing(list, after(r.at, 9), gate_f);
-    passed(
-        r,
-        after(9, gate_f.len() * 8),
-        wrapping_add_u64(sums, floats),
-    )
+    let bytes = after(9, gate_f.len() * 8);
+    passed(r, bytes, wrapping_add_u64(sums, floats))
+}
+
+pub fn replay_gate(
+    list: &[u8],
+    r: Replay,
+    kind: u8,
+    bank: &[u16],
+    bank_f: &[f64],
+    gate: &mut [u16],
+    gate_f: &mut [f64],
+    rise: &mut [u8],
+    drop: &mut [u8],
+) -> Replay {
+    match kind {
+        6 => replay_gate_new(list, r, gate, gate_f),
+        7 => replay_gate_update(list, r, bank, bank_f, gate, gate_f, rise, drop),
+        8 => replay_gate_hold(list, r, bank, bank_f, gate, gate_f, rise, drop),
+        9 => replay_gate_reading(list, r, bank, bank_f, gate, gate_f),
+        _ => replay_gate_stores(list, r, gate, gate_f),
+    }
 }

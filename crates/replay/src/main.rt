@@ -1,19 +1,18 @@
 // Replays a kept list of calls of a bank and a gate and compares what floor.rs answered to them; tests/compare/README.md says how the list is made.
+mod banks;
 mod compare;
 mod gates;
 mod hop;
 mod list;
 mod records;
+mod state;
 
-use records::GATE_LEN;
-use records::MOST;
-use records::MOST_F_LEN;
-use records::MOST_GATE_F_LEN;
-use records::MOST_LEN;
-use records::Replay;
-
-// The records start behind the tables.
-const RECORDS: usize = 3072;
+use state::GATE_LEN;
+use state::MOST;
+use state::MOST_F_LEN;
+use state::MOST_GATE_F_LEN;
+use state::MOST_LEN;
+use state::Replay;
 
 const MOST_BYTES: usize = 500000;
 
@@ -21,20 +20,11 @@ const MOST_BYTES: usize = 500000;
 fn replay_list(list: &[u8]) -> Replay {
     let mut bank = [0u16; MOST_LEN];
     let mut bank_f = [0.0f64; MOST_F_LEN];
-    let mut db = [0.0f64; MOST];
-    let mut power = [0.0f32; MOST];
     let mut gate = [0u16; GATE_LEN];
     let mut gate_f = [0.0f64; MOST_GATE_F_LEN];
     let mut rise = [0u8; MOST];
     let mut drop = [0u8; MOST];
-    let mut r = Replay {
-        at: RECORDS,
-        n: 0,
-        floats: 0,
-        is_on: true,
-        records: 0,
-        differences: 0,
-    };
+    let mut r = state::started();
     let mut turns = list.len();
     while turns > 0 && r.is_on {
         r = records::replay_turn(
@@ -42,8 +32,6 @@ fn replay_list(list: &[u8]) -> Replay {
             r,
             &mut bank,
             &mut bank_f,
-            &mut db,
-            &mut power,
             &mut gate,
             &mut gate_f,
             &mut rise,
@@ -54,13 +42,25 @@ fn replay_list(list: &[u8]) -> Replay {
     r
 }
 
-fn main() {
-    let mut buffer = [0u8; MOST_BYTES];
-    let bytes = io::read_full(0, &mut buffer);
-    let r = replay_list(&buffer[..bytes]);
+fn replay_bytes(buffer: &mut [u8]) -> Replay {
+    let bytes = io::read_full(0, buffer);
+    replay_list(&buffer[..bytes])
+}
+
+// On the whole array, whose length needs no proof.
+fn replay_input(buffer: &mut [u8; MOST_BYTES]) -> Replay {
+    replay_bytes(buffer)
+}
+
+fn print_counts(r: Replay) {
     io::write_all(1, b"replayed ");
     io::print_decimal(1, r.records);
     io::write_all(1, b" records, ");
     io::print_decimal(1, r.differences);
     io::write_all(1, b" differences\n");
+}
+
+fn main() {
+    let mut buffer = [0u8; MOST_BYTES];
+    print_counts(replay_input(&mut buffer));
 }

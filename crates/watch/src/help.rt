@@ -1,14 +1,20 @@
 // What the program says of itself, and of a word that it cannot take.
 use libc::STDERR_FILENO;
 use libc::STDOUT_FILENO;
-use watch_core::words;
-use watch_core::words::Settings;
+use watch_words::Settings;
 
 fn say(text: &[u8]) {
     io::write_all(STDOUT_FILENO, text);
 }
 
 pub fn print_help() {
+    print_levels();
+    print_options();
+    print_recording();
+    print_report();
+}
+
+fn print_levels() {
     say(
         b"watch [OPTIONS] FILE    which channels of a recording are alive; FILE - is standard input\n\n",
     );
@@ -21,6 +27,9 @@ pub fn print_help() {
     say(
         b"  --early DB     it also rises at once at DB over its effective floor, or: none    (none)\n",
     );
+}
+
+fn print_options() {
     say(
         b"  --lengths LIST up to eight window lengths of 1 to 375 hops, with commas   (15,75,375)\n",
     );
@@ -29,6 +38,9 @@ pub fn print_help() {
     );
     say(b"  --csv          a line per slow hop (every 15th) and channel, for tools/plot.py\n");
     say(b"  --help         this text\n\n");
+}
+
+fn print_recording() {
     say(
         b"Levels are whole eighths of a dB from -100 to 100, as 8, 6.5 or -1.125. 375 hops are a second.\n\n",
     );
@@ -39,6 +51,9 @@ pub fn print_help() {
         b"is heard, so the reference and the gate hold; else 0), n dB values (f64) and n linear powers (f32). The lowest\n",
     );
     say(b"byte of each number is first.\n\n");
+}
+
+fn print_report() {
     say(
         b"It prints the settings, a line for each change of a channel's state, and at the end the floors of each channel and\n",
     );
@@ -54,13 +69,15 @@ fn cry(text: &[u8]) {
 
 fn print_reason(fault: u8) {
     match fault {
-        words::UNKNOWN => cry(b" is no option; watch --help lists them\n"),
-        words::BAD_LEVEL => cry(b" is no level: whole eighths of a dB from -100 to 100, as 6.5\n"),
-        words::BAD_LENGTHS => cry(
+        watch_words::UNKNOWN => cry(b" is no option; watch --help lists them\n"),
+        watch_words::BAD_LEVEL => cry(
+            b" is no level: whole eighths of a dB from -100 to 100, as 6.5\n",
+        ),
+        watch_words::BAD_LENGTHS => cry(
             b" is no list of one to eight lengths of 1 to 375 hops, as 15,75,375\n",
         ),
-        words::NO_VALUE => cry(b" is the last word and needs a value\n"),
-        words::SECOND_FILE => cry(b" is a second recording; watch takes one\n"),
+        watch_words::NO_VALUE => cry(b" is the last word and needs a value\n"),
+        watch_words::SECOND_FILE => cry(b" is a second recording; watch takes one\n"),
         _ => cry(b" is too long\n"),
     }
 }

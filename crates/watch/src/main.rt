@@ -1,30 +1,27 @@
 // watch: which channels of a recording are alive. `watch --help` says how it is used.
 mod help;
-mod hops;
-mod report;
 mod stores_of;
 
 use libc::STDERR_FILENO;
 use libc::STDIN_FILENO;
-use watch_core::words;
-use watch_core::words::Settings;
+use watch_words::Settings;
 
 // The words of the command line, one after another.
 fn read_words(lengths: &mut [u16; 8]) -> Settings {
-    let mut s = words::default_settings();
+    let mut s = watch_words::default_settings();
     for i in 1..os::arg_count() {
         s = read_word(s, i, lengths);
     }
-    words::taken(s)
+    watch_words::taken(s)
 }
 
 fn read_word(s: Settings, i: usize, lengths: &mut [u16; 8]) -> Settings {
     let mut word = io::buffer();
     let len = os::arg(i, &mut word);
     if os::errno() != 0 {
-        return words::faulty(s, words::TOO_LONG, i);
+        return watch_words::faulty(s, watch_words::TOO_LONG, i);
     }
-    words::take_word(s, i, &word[..len], lengths)
+    watch_words::take_word(s, i, &word[..len], lengths)
 }
 
 fn watch_file(s: Settings, lengths: &[u16; 8]) {
@@ -45,13 +42,13 @@ fn watch_file(s: Settings, lengths: &[u16; 8]) {
 }
 
 fn main() {
-    let mut lengths = words::default_lengths();
+    let mut lengths = watch_words::default_lengths();
     let s = read_words(&mut lengths);
     if s.is_help {
         help::print_help();
         return;
     }
-    if s.fault != words::NOTHING {
+    if s.fault != watch_words::NOTHING {
         help::print_fault(s);
         return;
     }

@@ -1,7 +1,8 @@
 // The stores that a recording needs, on the stack, and their parts.
-use crate::hops;
-use crate::report;
-use watch_core::words::Settings;
+use watch_levels::signed;
+use watch_report::faults;
+use watch_report::head;
+use watch_words::Settings;
 
 // A bank of 512 channels.
 const MOST_BANK: usize = 273427;
@@ -17,12 +18,12 @@ pub fn watch_open(fd: i32, name: &[u8], s: Settings, lengths: &[u16; 8]) {
     let mut two = [0u8; 2];
     let got = io::read_full(fd, &mut two);
     if got < 2 {
-        report::print_no_header(fd, name, got);
+        faults::print_no_header(fd, name, got);
         return;
     }
     let n = low_first::two_bytes(&two, 0);
-    if n == 0 || n > 512 {
-        report::print_bad_band(name, n);
+    if !stores::in_band(wide(n)) {
+        faults::print_bad_band(name, n);
         return;
     }
     watch_channels(fd, name, s, lengths, n);
@@ -39,7 +40,7 @@ fn watch_channels(fd: i32, name: &[u8], s: Settings, lengths: &[u16], n: u16) {
     }
     let gate_f_len = gate_making::gate_f_len(wide(n), &lengths[..count]);
     if gate_f_len > MOST_GATE_F {
-        report::print_too_large(name, n, gate_f_len, MOST_GATE_F);
+        faults::print_too_large(name, n, gate_f_len, MOST_GATE_F);
         return;
     }
     watch_sized(fd, name, s, &lengths[..count], n, gate_f_len);
@@ -115,7 +116,7 @@ fn watch_parts(
     if gate_f_len > gate_f.len() {
         return;
     }
-    hops::watch_with(
+    watch_with(
         fd,
         name,
         s,
@@ -126,4 +127,50 @@ fn watch_parts(
         gate,
         &mut gate_f[..gate_f_len],
     );
+}
+
+// Fresh stores: 0, or the number of the refusal.
+fn make(
+    s: Settings,
+    lengths: &[u16],
+    n: u16,
+    bank: &mut [u16],
+    bank_f: &mut [f64],
+    gate: &mut [u16],
+    gate_f: &mut [f64],
+) -> u16 {
+    let no = bank_making::bank_new(bank, bank_f, wide(n));
+    if no != 0 {
+        return no;
+    }
+    gate_making::gate_new(
+        gate,
+        gate_f,
+        wide(n),
+        signed(s.on),
+        signed(s.off),
+        signed(s.early),
+        lengths,
+    )
+}
+
+// Makes the stores, and watches the hops.
+fn watch_with(
+    fd: i32,
+    name: &[u8],
+    s: Settings,
+    lengths: &[u16],
+    n: u16,
+    bank: &mut [u16],
+    bank_f: &mut [f64],
+    gate: &mut [u16],
+    gate_f: &mut [f64],
+) {
+    let no = make(s, lengths, n, bank, bank_f, gate, gate_f);
+    if no != 0 {
+        faults::print_refusal(name, 0, 0, no);
+        return;
+    }
+    head::print_head(name, s, lengths, n);
+    watch_hops::watch::watch_hops(fd, name, s, n, bank, bank_f, gate, gate_f);
 }

@@ -1,3 +1,1 @@
 pub mod Fills
-pub mod Levels
-pub mod Lines

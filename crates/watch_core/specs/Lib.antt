@@ -1,4 +1,2 @@
 pub mod Recording
 pub mod States
-pub mod Text
-pub mod Words

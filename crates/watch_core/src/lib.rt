@@ -1,5 +1,3 @@
-// What the program `watch` works out: the steps of a recording, which channels are alive, the text of numbers, and the words of the command line.
+// What the program `watch` works out: the steps of a recording, and which channels are alive.
 pub mod recording;
 pub mod states;
-pub mod text;
-pub mod words;

@@ -4,10 +4,13 @@ use Rattle.replay.proofs.replay_list.Statement.{statement}
 use Rattle.replay.proofs.replay_list.Tie as tie
 
 abbrev Inv-loop : tie.InvT-loop
-Inv-loop list bank₀ bank-f₀ db₀ power₀ gate₀ gate-f₀ rise₀ drop₀ r₀ turns₀ bank bank-f db power gate gate-f rise drop r turns = Unit {0}
+Inv-loop list bank₀ bank-f₀ gate₀ gate-f₀ rise₀ drop₀ r₀ turns₀ bank bank-f gate gate-f rise drop r turns = Unit {0}
 
 abbrev μ-loop : tie.MeasureT-loop
-μ-loop list bank₀ bank-f₀ db₀ power₀ gate₀ gate-f₀ rise₀ drop₀ r₀ turns₀ bank bank-f db power gate gate-f rise drop r turns = turns
+μ-loop list bank₀ bank-f₀ gate₀ gate-f₀ rise₀ drop₀ r₀ turns₀ bank bank-f gate gate-f rise drop r turns = turns
+
+started-requires : tie.Need-started-requires Inv-loop μ-loop
+started-requires c κs = search needs
 
 loop-holds : tie.Need-loop-holds Inv-loop μ-loop
 loop-holds c = search needs
@@ -36,6 +39,7 @@ replay-list-spec =
     (tie.spec
     Inv-loop
     μ-loop
+    started-requires
     loop-holds
     replay-turn-requires
     sub-turns

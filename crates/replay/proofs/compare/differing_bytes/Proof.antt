@@ -18,9 +18,6 @@ loop-holds c = search needs
 shared-slice-read-one : tie.Need-shared-slice-read-one Inv-loop μ-loop
 shared-slice-read-one c = search needs
 
-after-requires : tie.Need-after-requires Inv-loop μ-loop
-after-requires c κs = search needs
-
 byte-at-requires : tie.Need-byte-at-requires Inv-loop μ-loop
 byte-at-requires c κs = search needs
 
@@ -50,7 +47,6 @@ differing-bytes-spec =
     μ-loop
     loop-holds
     shared-slice-read-one
-    after-requires
     byte-at-requires
     one-requires
     wrapping-add-u64-requires

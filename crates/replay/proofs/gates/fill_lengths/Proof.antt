@@ -21,8 +21,8 @@ mul-after c = search needs
 after-requires : tie.Need-after-requires Inv-loop μ-loop
 after-requires c κs = search needs
 
-word-at-requires : tie.Need-word-at-requires Inv-loop μ-loop
-word-at-requires c κs = search needs
+two-bytes-requires : tie.Need-two-bytes-requires Inv-loop μ-loop
+two-bytes-requires c κs = search needs
 
 mul-lengths : tie.Need-mul-lengths Inv-loop μ-loop
 mul-lengths c = search needs
@@ -54,7 +54,7 @@ fill-lengths-spec =
     loop-holds
     mul-after
     after-requires
-    word-at-requires
+    two-bytes-requires
     mul-lengths
     slice-write-lengths
     add-i

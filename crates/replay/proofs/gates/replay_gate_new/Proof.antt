@@ -6,9 +6,6 @@ use borrow.Author.Needs.{needs}
 use Rattle.replay.proofs.gates.replay_gate_new.Statement.{statement}
 use Rattle.replay.proofs.gates.replay_gate_new.Tie as tie
 
-after-requires : tie.Need-after-requires
-after-requires c κs = search needs
-
 byte-at-requires : tie.Need-byte-at-requires
 byte-at-requires c κs = search needs
 
@@ -43,7 +40,6 @@ pub replay-gate-new-spec : {M : Type 1} → statement M
 replay-gate-new-spec =
     tie.close
     (tie.spec
-    after-requires
     byte-at-requires
     index-requires
     ended-requires

@@ -15,9 +15,6 @@ abbrev μ-loop : tie.MeasureT-loop
 loop-holds : tie.Need-loop-holds Inv-loop μ-loop
 loop-holds c = search needs
 
-after-requires : tie.Need-after-requires Inv-loop μ-loop
-after-requires c κs = search needs
-
 tabled-db-requires : tie.Need-tabled-db-requires Inv-loop μ-loop
 tabled-db-requires c κs = search needs
 
@@ -49,7 +46,6 @@ fill-db-spec =
     Inv-loop
     μ-loop
     loop-holds
-    after-requires
     tabled-db-requires
     mul-db
     slice-write-db

@@ -1,0 +1,3 @@
+// The hops of a recording, one after another.
+pub mod hear;
+pub mod watch;

@@ -1,0 +1,1 @@
+-- Window lengths as a word.

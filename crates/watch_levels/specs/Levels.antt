@@ -1,0 +1,1 @@
+-- Levels as words, and as the gate takes them.

@@ -1,0 +1,218 @@
+// What a hop gives to print: a line for each change, or on a slow hop one for each channel.
+use crate::out::cry;
+use crate::out::put_reference;
+use crate::out::say;
+use watch_core::recording;
+use watch_core::states;
+use watch_figures::bit;
+use watch_figures::ends_minute;
+use watch_figures::float_at;
+use watch_figures::floors_of;
+use watch_figures::value;
+use watch_figures::whole_seconds;
+use watch_floats::put_db;
+use watch_floats::put_power;
+use watch_text::LINE;
+use watch_text::put_number;
+use watch_text::put_seconds;
+use watch_text::put_text;
+use watch_words::Settings;
+
+// A line on standard error for each minute of a recording.
+fn print_progress(hop: u64) {
+    let mut line = [0u8; LINE];
+    if ends_minute(hop) {
+        let at = put_text(&mut line, 0, b"watch: ");
+        let at = put_number(&mut line, at, whole_seconds(hop), 0);
+        let at = put_text(&mut line, at, b" s read\n");
+        cry(&line, at);
+    }
+}
+
+// What a hop gives to print.
+pub fn print_hop(
+    hop: u64,
+    s: Settings,
+    db: &[f64],
+    bank: &[u16],
+    bank_f: &[f64],
+    gate: &[u16],
+    gate_f: &[f64],
+    alive: &[u8],
+    events: &[u8],
+    rise: &[u8],
+    drop: &[u8],
+) {
+    print_progress(hop);
+    if !s.is_csv {
+        print_changes(hop, s, bank, bank_f, gate, gate_f, alive, rise, drop);
+        return;
+    }
+    if recording::is_slow(hop) {
+        print_rows(
+            hop,
+            s,
+            db,
+            bank,
+            bank_f,
+            gate,
+            gate_f,
+            alive,
+            events,
+            rise,
+            drop,
+        );
+    }
+}
+
+fn print_changes(
+    hop: u64,
+    s: Settings,
+    bank: &[u16],
+    bank_f: &[f64],
+    gate: &[u16],
+    gate_f: &[f64],
+    alive: &[u8],
+    rise: &[u8],
+    drop: &[u8],
+) {
+    for k in 0..alive.len() {
+        match states::change_at(alive, rise, drop, k) {
+            0 => {}
+            1 => print_change(hop, s, bank, bank_f, gate, gate_f, k, true),
+            _ => print_change(hop, s, bank, bank_f, gate, gate_f, k, false),
+        }
+    }
+}
+
+fn put_change(line: &mut [u8; LINE], at: usize, is_alive: bool) -> usize {
+    if is_alive {
+        put_text(line, at, b"  rise  ")
+    } else {
+        put_text(line, at, b"  drop  ")
+    }
+}
+
+fn print_change(
+    hop: u64,
+    s: Settings,
+    bank: &[u16],
+    bank_f: &[f64],
+    gate: &[u16],
+    gate_f: &[f64],
+    k: usize,
+    is_alive: bool,
+) {
+    let mut line = [0u8; LINE];
+    let f = floors_of(readings::floors(bank, bank_f, k));
+    let at = put_number(&mut line, 0, hop, 8);
+    let at = put_seconds(&mut line, at, hop, 10);
+    let at = put_number(&mut line, at, k as u64, 9);
+    let at = put_change(&mut line, at, is_alive);
+    let at = put_db(&mut line, at, value(gate_readings::smoothed_db(gate, gate_f, k)), 11);
+    let at = put_db(&mut line, at, f.effective, 11);
+    let at = put_db(&mut line, at, f.rise, 12);
+    let at = put_reference(&mut line, at, bank, bank_f, k, s.has_reference && is_alive);
+    let at = put_text(&mut line, at, b"\n");
+    say(&line, at);
+}
+
+fn print_rows(
+    hop: u64,
+    s: Settings,
+    db: &[f64],
+    bank: &[u16],
+    bank_f: &[f64],
+    gate: &[u16],
+    gate_f: &[f64],
+    alive: &[u8],
+    events: &[u8],
+    rise: &[u8],
+    drop: &[u8],
+) {
+    for k in 0..alive.len() {
+        print_row(
+            hop,
+            s,
+            float_at(db, k),
+            bank,
+            bank_f,
+            gate,
+            gate_f,
+            k,
+            states::next_state(alive, rise, drop, k),
+            states::mark_at(events, k),
+        );
+    }
+}
+
+fn put_event(line: &mut [u8; LINE], at: usize, event: u8) -> usize {
+    match event {
+        0 => at,
+        1 => put_text(line, at, b"rise"),
+        2 => put_text(line, at, b"drop"),
+        _ => put_text(line, at, b"rise+drop"),
+    }
+}
+
+fn put_comma_db(line: &mut [u8; LINE], at: usize, x: f64) -> usize {
+    let at = put_text(line, at, b",");
+    put_db(line, at, x, 0)
+}
+
+fn print_row(
+    hop: u64,
+    s: Settings,
+    db: f64,
+    bank: &[u16],
+    bank_f: &[f64],
+    gate: &[u16],
+    gate_f: &[f64],
+    k: usize,
+    is_alive: bool,
+    event: u8,
+) {
+    let mut line = [0u8; LINE];
+    let f = floors_of(readings::floors(bank, bank_f, k));
+    let at = put_number(&mut line, 0, hop, 0);
+    let at = put_text(&mut line, at, b",");
+    let at = put_seconds(&mut line, at, hop, 0);
+    let at = put_text(&mut line, at, b",");
+    let at = put_number(&mut line, at, k as u64, 0);
+    let at = put_comma_db(&mut line, at, db);
+    let at = put_comma_db(&mut line, at, value(gate_readings::smoothed_db(gate, gate_f, k)));
+    let at = put_comma_db(&mut line, at, f.raw);
+    let at = put_comma_db(&mut line, at, f.effective);
+    let at = put_comma_db(&mut line, at, f.rise);
+    let at = put_text(&mut line, at, b",");
+    let at = put_number(&mut line, at, bit(is_alive), 0);
+    let at = put_text(&mut line, at, b",");
+    let at = put_event(&mut line, at, event);
+    let at = put_csv_reference(&mut line, at, s, bank, bank_f, k, is_alive);
+    let at = put_text(&mut line, at, b"\n");
+    say(&line, at);
+}
+
+fn put_csv_reference(
+    line: &mut [u8; LINE],
+    at: usize,
+    s: Settings,
+    bank: &[u16],
+    bank_f: &[f64],
+    k: usize,
+    is_alive: bool,
+) -> usize {
+    if !s.has_reference {
+        return at;
+    }
+    let at = put_text(line, at, b",");
+    if !is_alive {
+        return at;
+    }
+    put_power(
+        line,
+        at,
+        value(readings::spectral_reference(bank, bank_f, k)),
+        0,
+    )
+}

@@ -1,0 +1,84 @@
+// The channels at the end of a report.
+use crate::out::put_reference;
+use crate::out::say;
+use libc::STDOUT_FILENO;
+use watch_core::states;
+use watch_figures::floors_of;
+use watch_floats::put_db;
+use watch_text::LINE;
+use watch_text::put_number;
+use watch_text::put_seconds;
+use watch_text::put_text;
+use watch_words::Settings;
+
+// The channels at the end.
+pub fn print_tail(
+    s: Settings,
+    hops: u64,
+    bank: &[u16],
+    bank_f: &[f64],
+    alive: &[u8],
+    alive_hops: &[u64],
+    rises: &[u64],
+) {
+    if s.is_csv {
+        return;
+    }
+    print_total(hops);
+    for k in 0..alive.len() {
+        print_channel(
+            s,
+            bank,
+            bank_f,
+            k,
+            states::is_set(alive, k),
+            states::count_at(alive_hops, k),
+            states::count_at(rises, k),
+        );
+    }
+}
+
+fn print_total(hops: u64) {
+    let mut line = [0u8; LINE];
+    let at = put_text(&mut line, 0, b"\nAfter ");
+    let at = put_number(&mut line, at, hops, 0);
+    let at = put_text(&mut line, at, b" hops, ");
+    let at = put_seconds(&mut line, at, hops, 0);
+    let at = put_text(&mut line, at, b" s, floors in dB:\n\n");
+    say(&line, at);
+    io::write_all(
+        STDOUT_FILENO,
+        b"channel        raw  effective  rise floor   alive s  rises  now\n",
+    );
+}
+
+fn put_state(line: &mut [u8; LINE], at: usize, is_alive: bool) -> usize {
+    if is_alive {
+        put_text(line, at, b"  alive")
+    } else {
+        put_text(line, at, b"  idle")
+    }
+}
+
+fn print_channel(
+    s: Settings,
+    bank: &[u16],
+    bank_f: &[f64],
+    k: usize,
+    is_alive: bool,
+    alive_hops: u64,
+    rises: u64,
+) {
+    let mut line = [0u8; LINE];
+    let f = floors_of(readings::floors(bank, bank_f, k));
+    let at = put_number(&mut line, 0, k as u64, 7);
+    let at = put_db(&mut line, at, f.raw, 11);
+    let at = put_db(&mut line, at, f.effective, 11);
+    let at = put_db(&mut line, at, f.rise, 12);
+    let at = put_seconds(&mut line, at, alive_hops, 10);
+    let at = put_number(&mut line, at, rises, 7);
+    let at = put_state(&mut line, at, is_alive);
+    let at = put_reference(&mut line, at, bank, bank_f, k, s.has_reference && is_alive);
+    let at = put_text(&mut line, at, b"\n");
+    say(&line, at);
+}
