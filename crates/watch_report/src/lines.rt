@@ -109,7 +109,12 @@ fn print_change(
     let at = put_seconds(&mut line, at, hop, 10);
     let at = put_number(&mut line, at, k as u64, 9);
     let at = put_change(&mut line, at, is_alive);
-    let at = put_db(&mut line, at, value(gate_readings::smoothed_db(gate, gate_f, k)), 11);
+    let at = put_db(
+        &mut line,
+        at,
+        value(gate_readings::smoothed_db(gate, gate_f, k)),
+        11,
+    );
     let at = put_db(&mut line, at, f.effective, 11);
     let at = put_db(&mut line, at, f.rise, 12);
     let at = put_reference(&mut line, at, bank, bank_f, k, s.has_reference && is_alive);
@@ -180,7 +185,11 @@ fn print_row(
     let at = put_text(&mut line, at, b",");
     let at = put_number(&mut line, at, k as u64, 0);
     let at = put_comma_db(&mut line, at, db);
-    let at = put_comma_db(&mut line, at, value(gate_readings::smoothed_db(gate, gate_f, k)));
+    let at = put_comma_db(
+        &mut line,
+        at,
+        value(gate_readings::smoothed_db(gate, gate_f, k)),
+    );
     let at = put_comma_db(&mut line, at, f.raw);
     let at = put_comma_db(&mut line, at, f.effective);
     let at = put_comma_db(&mut line, at, f.rise);
