@@ -6,3 +6,4 @@ pub mod Floats
 pub mod Defaults
 pub mod Runs
 pub mod Counting
+pub mod Folds
