@@ -7,3 +7,4 @@ pub mod Defaults
 pub mod Runs
 pub mod Counting
 pub mod Folds
+pub mod Texts
