@@ -2,6 +2,7 @@
 use mathlib.Core.Bool.{Bool, true, false, cond, _&&_}
 use mathlib.Core.List.{List, [], _∷_, _++_}
 use Prim.Native.Nat.{ℕ, zero, suc, _+_, _/_}
+use lib.Dec.{ltb}
 use lib.Ieee.{Float, binary64, ofBits, add, mul, neg, lt, ne, toUnsigned}
 use Rattle.laws.specs.Texts.{ascii}
 use Rattle.watch_text.specs.Text.{glyph, hundredths}
@@ -72,8 +73,12 @@ scaledUp (suc k) s = cond (lt (s .x) f1) (scaledUp k (record { x = mul binary64 
 unfoldable pub scaleOf : Float → Scaled
 scaleOf p = scaledUp 330 (record { x = p; tens = 0 })
 
+-- two digits, or three where two do not hold it
+abbrev pub exponent : ℕ → List ℕ
+exponent n = cond (ltb n 100) (glyph (n / 10) ∷ glyph n ∷ []) (glyph (n / 100) ∷ glyph (n / 10) ∷ glyph n ∷ [])
+
 unfoldable pub scaledText : Scaled → List ℕ
-scaledText s = dbText (s .x) ++ (ascii "e-" ++ (glyph (s .tens / 10) ∷ glyph (s .tens) ∷ []))
+scaledText s = dbText (s .x) ++ (ascii "e-" ++ exponent (s .tens))
 
 -- a linear power: as it is from 1 on, else as 4.56e-12
 unfoldable pub powerText : Float → List ℕ

@@ -103,9 +103,19 @@ pub fn put_power(line: &mut [u8; LINE], at: usize, x: f64, width: usize) -> usiz
     put_db(line, at, x, width)
 }
 
+// The power of ten has two digits, or three where two do not hold it.
 fn put_scaled(line: &mut [u8; LINE], at: usize, s: Scaled, width: usize) -> usize
     ensures { λ r. ⌜ (now (line .exit), r) ≡ putAll (now (line .entry), at) (right width (scaledText s)) ⌝ }
 {
-    let end = put_db(line, at, s.x, missing(width, 4));
-    put_text(line, end, &[b'e', b'-', glyph(s.tens / 10), glyph(s.tens)])
+    let tens = s.tens;
+    if tens < 100 {
+        let end = put_db(line, at, s.x, missing(width, 4));
+        return put_text(line, end, &[b'e', b'-', glyph(tens / 10), glyph(tens)]);
+    }
+    let end = put_db(line, at, s.x, missing(width, 5));
+    put_text(
+        line,
+        end,
+        &[b'e', b'-', glyph(tens / 100), glyph(tens / 10), glyph(tens)],
+    )
 }
