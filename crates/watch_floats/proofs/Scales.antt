@@ -1,9 +1,9 @@
 -- A power that is taken ten times, again and again, until it is 1 or more. Assumes nothing.
 use mathlib.Core.Path.{_≡_, refl, ap, _∙_}
 use mathlib.Core.Bool.{true, false}
-use Prim.Native.Nat.{ℕ, zero, suc, _+_, _-_, _<_, _≤_}
+use Prim.Native.Nat.{ℕ, zero, suc, _+_, _-_, _<_}
 use native.Mathlib.Omega.{arith}
-use lib.Ieee.{Float, binary64, mul, lt}
+use lib.Ieee.{binary64, mul, lt}
 use Rattle.watch_floats.specs.declared.Scaled.{Scaled}
 use Rattle.watch_floats.specs.Floats.{f1, f10, scaledUp}
 

@@ -1,11 +1,11 @@
 -- Laws on words and levels. Assumes nothing.
 use mathlib.Core.Path.{_≡_, refl}
 use mathlib.Core.List.{List, [], _∷_}
-use Prim.Native.Nat.{ℕ, zero, suc, _-_, _<_, _^_}
+use Prim.Native.Nat.{ℕ, zero, suc, _-_, _<_}
 use native.Mathlib.Omega.{arith}
 use lib.ListN.{length, take, drop}
 use lib.Seq.{take-all}
-use lib.IntN.{ℤ, pos, negsuc, _-ℤ_}
+use lib.IntN.{pos, _-ℤ_}
 use borrow.Author.Tests.{lt-ltb}
 use mir.Syntax.{w32}
 use mir.Val.{SFits}

@@ -1,7 +1,7 @@
 -- Levels in dB as words: 8, 6.5, -1.125. A word is a sign or none, digits, and a point among them or none. It is a level if it says whole
 -- eighths of a dB, at most 100 dB.
 use mathlib.Core.Bool.{Bool, true, false, not, cond, _&&_, _||_}
-use mathlib.Core.List.{List, [], _∷_, foldl}
+use mathlib.Core.List.{List, foldl}
 use Prim.Native.Nat.{ℕ, _+_, _*_, _-_, _/_, _%_}
 use lib.Dec.{eqb, ltb, leb}
 use lib.ListN.{length, getD, drop}

@@ -1,8 +1,7 @@
 -- Numbers as people read them.
 use mathlib.Core.Path.{_≡_, refl}
 use mathlib.Core.Bool.{true, false}
-use mathlib.Core.List.{List, [], _∷_}
-use Prim.Native.Nat.{ℕ}
+use mathlib.Core.List.{[], _∷_}
 use Rattle.laws.specs.Texts.{ascii}
 use Rattle.watch_text.specs.Text.{spaces, right, decimal, whole, hundredths, thousandths, millis}
 

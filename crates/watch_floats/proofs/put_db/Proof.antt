@@ -1,8 +1,8 @@
+use mathlib.Core.Path.{sym, ap, _∙_}
+use borrow.Author.Needs.{needs}
 use Rattle.watch_floats.specs.Floats.{dbText, shownText}
 use Rattle.watch_floats.specs.declared.Shown.{Shown}
 use Rattle.watch_text.specs.Text.{putAll, right}
-use mathlib.Core.Path.{_≡_, sym, ap, _∙_}
-use borrow.Author.Needs.{needs}
 use Rattle.watch_floats.proofs.put_db.Statement.{statement}
 use Rattle.watch_floats.proofs.put_db.Tie as tie
 use Rattle.watch_floats.proofs.put_db.Reads as reads

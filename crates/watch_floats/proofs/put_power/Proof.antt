@@ -1,8 +1,8 @@
+use mathlib.Core.Path.{sym, ap, _∙_}
+use borrow.Author.Needs.{needs}
 use Rattle.watch_floats.specs.Floats.{powerText, scaledText}
 use Rattle.watch_floats.specs.declared.Scaled.{Scaled}
 use Rattle.watch_text.specs.Text.{putAll, right}
-use mathlib.Core.Path.{_≡_, sym, ap, _∙_}
-use borrow.Author.Needs.{needs}
 use Rattle.watch_floats.proofs.put_power.Statement.{statement}
 use Rattle.watch_floats.proofs.put_power.Tie as tie
 use Rattle.watch_floats.proofs.put_power.Reads as reads

@@ -1,8 +1,8 @@
+use mathlib.Core.Path.{refl}
+use borrow.Author.Tests.{lt-ltb, le-ltb}
+use borrow.Author.Needs.{needs}
 use Rattle.watch_text.proofs.Lines.{ended}
 use Rattle.watch_floats.specs.Floats.{scaledText}
-use borrow.Author.Tests.{lt-ltb, le-ltb}
-use mathlib.Core.Path.{_≡_, refl}
-use borrow.Author.Needs.{needs}
 use Rattle.watch_floats.proofs.put_scaled.Statement.{statement}
 use Rattle.watch_floats.proofs.put_scaled.Tie as tie
 use Rattle.watch_floats.proofs.put_scaled.Reads as reads

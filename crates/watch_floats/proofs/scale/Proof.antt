@@ -1,9 +1,9 @@
+use mathlib.Core.Path.{_≡_, refl, sym, _∙_}
+use Prim.Native.Nat.{_-_, _≤_}
+use native.Mathlib.Omega.{arith}
+use borrow.Author.Needs.{needs}
 use Rattle.watch_floats.proofs.Scales.{scale-next, scale-stays, scale-ends}
 use Rattle.watch_floats.specs.Floats.{scaledUp, scaleOf}
-use native.Mathlib.Omega.{arith}
-use Prim.Native.Nat.{_-_, _≤_}
-use mathlib.Core.Path.{_≡_, refl, sym, _∙_}
-use borrow.Author.Needs.{needs}
 use Rattle.watch_floats.proofs.scale.Statement.{statement}
 use Rattle.watch_floats.proofs.scale.Tie as tie
 use Rattle.watch_floats.proofs.scale.Reads as reads

@@ -1,12 +1,11 @@
-use mathlib.Core.Path.{refl}
-use Rattle.laws.proofs.Folds.{fold-next, fold-done}
-use Rattle.watch_lengths.specs.Lengths.{Put, step, begun, ended, counted}
-use lib.ListN.{length, getD, take}
+use mathlib.Core.Path.{refl, _≡_, ap, _∙_}
 use mathlib.Core.List.{foldl}
-use native.Mathlib.Omega.{arith}
 use Prim.Native.Nat.{_-_, _≤_}
-use mathlib.Core.Path.{_≡_, ap, _∙_}
+use native.Mathlib.Omega.{arith}
+use lib.ListN.{length, take}
 use borrow.Author.Needs.{needs}
+use Rattle.laws.proofs.Folds.{fold-next, fold-done}
+use Rattle.watch_lengths.specs.Lengths.{step, begun, ended, counted}
 use Rattle.watch_lengths.proofs.lengths_of.Statement.{statement}
 use Rattle.watch_lengths.proofs.lengths_of.Tie as tie
 use Rattle.watch_lengths.proofs.lengths_of.Reads as reads

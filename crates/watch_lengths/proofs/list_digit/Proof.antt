@@ -1,6 +1,6 @@
-use Rattle.watch_lengths.specs.Lengths.{digit}
-use borrow.Author.Tests.{lt-ltb, le-ltb, le-leb, lt-leb}
+use borrow.Author.Tests.{le-leb, lt-leb}
 use borrow.Author.Needs.{needs}
+use Rattle.watch_lengths.specs.Lengths.{digit}
 use Rattle.watch_lengths.proofs.list_digit.Statement.{statement}
 use Rattle.watch_lengths.proofs.list_digit.Tie as tie
 use Rattle.watch_lengths.proofs.list_digit.Reads as reads

@@ -1,6 +1,6 @@
-use Rattle.watch_lengths.specs.Lengths.{ended}
 use borrow.Author.Tests.{lt-ltb, le-ltb, le-leb, lt-leb}
 use borrow.Author.Needs.{needs}
+use Rattle.watch_lengths.specs.Lengths.{ended}
 use Rattle.watch_lengths.proofs.list_end.Statement.{statement}
 use Rattle.watch_lengths.proofs.list_end.Tie as tie
 use Rattle.watch_lengths.proofs.list_end.Reads as reads

@@ -1,6 +1,6 @@
-use Rattle.watch_lengths.specs.Lengths.{step}
 use borrow.Author.Tests.{ne-eqb}
 use borrow.Author.Needs.{needs}
+use Rattle.watch_lengths.specs.Lengths.{step}
 use Rattle.watch_lengths.proofs.list_step.Statement.{statement}
 use Rattle.watch_lengths.proofs.list_step.Tie as tie
 use Rattle.watch_lengths.proofs.list_step.Reads as reads

@@ -1,12 +1,11 @@
-use lib.ListN.{length, getD, take}
-use native.Mathlib.Omega.{arith}
 use mathlib.Core.Path.{_≡_}
+use mathlib.Core.List.{foldl}
 use Prim.Native.Nat.{_-_, _≤_}
+use native.Mathlib.Omega.{arith}
+use lib.ListN.{length, take}
+use borrow.Author.Needs.{needs}
 use Rattle.laws.proofs.Folds.{fold-next, fold-done}
 use Rattle.watch_levels.specs.Levels.{step, nothing}
-use lib.ListN.{getD}
-use mathlib.Core.List.{foldl}
-use borrow.Author.Needs.{needs}
 use Rattle.watch_levels.proofs.decimal_of.Statement.{statement}
 use Rattle.watch_levels.proofs.decimal_of.Tie as tie
 use Rattle.watch_levels.proofs.decimal_of.Reads as reads

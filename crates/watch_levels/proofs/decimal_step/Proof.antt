@@ -1,6 +1,6 @@
-use Rattle.watch_levels.specs.Levels.{step}
 use borrow.Author.Tests.{ne-eqb, lt-ltb, le-ltb, le-leb, lt-leb}
 use borrow.Author.Needs.{needs}
+use Rattle.watch_levels.specs.Levels.{step}
 use Rattle.watch_levels.proofs.decimal_step.Statement.{statement}
 use Rattle.watch_levels.proofs.decimal_step.Tie as tie
 use Rattle.watch_levels.proofs.decimal_step.Reads as reads

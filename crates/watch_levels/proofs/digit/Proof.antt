@@ -1,6 +1,6 @@
-use Rattle.watch_levels.specs.Levels.{digit}
 use borrow.Author.Tests.{ne-eqb}
 use borrow.Author.Needs.{needs}
+use Rattle.watch_levels.specs.Levels.{digit}
 use Rattle.watch_levels.proofs.digit.Statement.{statement}
 use Rattle.watch_levels.proofs.digit.Tie as tie
 use Rattle.watch_levels.proofs.digit.Reads as reads

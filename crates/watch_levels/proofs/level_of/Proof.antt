@@ -1,7 +1,7 @@
-use Rattle.watch_levels.proofs.Levels.{all-but-first}
-use Rattle.watch_levels.specs.Levels.{levelOf}
 use borrow.Author.Tests.{ne-eqb}
 use borrow.Author.Needs.{needs}
+use Rattle.watch_levels.proofs.Levels.{all-but-first}
+use Rattle.watch_levels.specs.Levels.{levelOf}
 use Rattle.watch_levels.proofs.level_of.Statement.{statement}
 use Rattle.watch_levels.proofs.level_of.Tie as tie
 use Rattle.watch_levels.proofs.level_of.Reads as reads

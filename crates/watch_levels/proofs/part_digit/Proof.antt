@@ -1,8 +1,8 @@
-use Rattle.watch_levels.specs.Levels.{partDigit}
-use Rattle.laws.proofs.Lists.{row}
 use mathlib.Core.Path.{sym, _∙_}
 use native.Mathlib.Omega.{arith}
 use borrow.Author.Needs.{needs}
+use Rattle.watch_levels.specs.Levels.{partDigit}
+use Rattle.laws.proofs.Lists.{row}
 use Rattle.watch_levels.proofs.part_digit.Statement.{statement}
 use Rattle.watch_levels.proofs.part_digit.Tie as tie
 use Rattle.watch_levels.proofs.part_digit.Reads as reads

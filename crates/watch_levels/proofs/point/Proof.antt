@@ -1,6 +1,6 @@
-use Rattle.watch_levels.specs.Levels.{pointed}
 use borrow.Author.Tests.{ne-eqb}
 use borrow.Author.Needs.{needs}
+use Rattle.watch_levels.specs.Levels.{pointed}
 use Rattle.watch_levels.proofs.point.Statement.{statement}
 use Rattle.watch_levels.proofs.point.Tie as tie
 use Rattle.watch_levels.proofs.point.Reads as reads

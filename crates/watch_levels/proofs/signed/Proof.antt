@@ -1,10 +1,8 @@
-use mir.Facts.{toZ-ofZ}
-use lib.IntN.{pos}
 use native.Mathlib.Omega.{arith}
+use mir.Facts.{toZ-ofZ, toZ-pos}
 use mir.Syntax.{w32}
-use mir.Facts.{toZ-pos}
-use Rattle.watch_levels.proofs.Levels.{negated}
 use borrow.Author.Needs.{needs}
+use Rattle.watch_levels.proofs.Levels.{negated}
 use Rattle.watch_levels.proofs.signed.Statement.{statement}
 use Rattle.watch_levels.proofs.signed.Tie as tie
 use Rattle.watch_levels.proofs.signed.Reads as reads

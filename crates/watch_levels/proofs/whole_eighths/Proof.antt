@@ -1,6 +1,6 @@
-use Rattle.watch_levels.specs.Levels.{wholeEighths}
 use borrow.Author.Tests.{ne-eqb, le-leb, lt-leb, not-true, not-false}
 use borrow.Author.Needs.{needs}
+use Rattle.watch_levels.specs.Levels.{wholeEighths}
 use Rattle.watch_levels.proofs.whole_eighths.Statement.{statement}
 use Rattle.watch_levels.proofs.whole_eighths.Tie as tie
 use Rattle.watch_levels.proofs.whole_eighths.Reads as reads

@@ -1,10 +1,9 @@
+use mathlib.Core.Bool.{Bool}
+use mathlib.Core.Path.{refl, ap, _∙_}
+use Prim.Native.Nat.{_/_}
+use borrow.Author.Needs.{needs}
 use Rattle.watch_text.proofs.Lines.{ended}
 use Rattle.watch_text.specs.Text.{putAll, right, whole, hundredths}
-use Prim.Native.Nat.{ℕ, _/_}
-use mathlib.Core.List.{List, [], _∷_}
-use mathlib.Core.Bool.{Bool}
-use mathlib.Core.Path.{_≡_, refl, ap, _∙_}
-use borrow.Author.Needs.{needs}
 use Rattle.watch_text.proofs.put_hundredths.Statement.{statement}
 use Rattle.watch_text.proofs.put_hundredths.Tie as tie
 use Rattle.watch_text.proofs.put_hundredths.Reads as reads

@@ -1,10 +1,10 @@
-use Rattle.watch_text.proofs.Lines.{decimal-is}
-use Rattle.watch_text.specs.Text.{putAll, right}
-use native.Mathlib.Omega.{arith}
-use Prim.Native.Nat.{ℕ}
 use mathlib.Core.List.{List}
 use mathlib.Core.Path.{ap, _∙_}
+use Prim.Native.Nat.{ℕ}
+use native.Mathlib.Omega.{arith}
 use borrow.Author.Needs.{needs}
+use Rattle.watch_text.proofs.Lines.{decimal-is}
+use Rattle.watch_text.specs.Text.{putAll, right}
 use Rattle.watch_text.proofs.put_number.Statement.{statement}
 use Rattle.watch_text.proofs.put_number.Tie as tie
 use Rattle.watch_text.proofs.put_number.Reads as reads

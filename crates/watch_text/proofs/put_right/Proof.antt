@@ -1,5 +1,5 @@
-use Rattle.watch_text.proofs.Lines.{aligned}
 use borrow.Author.Needs.{needs}
+use Rattle.watch_text.proofs.Lines.{aligned}
 use Rattle.watch_text.proofs.put_right.Statement.{statement}
 use Rattle.watch_text.proofs.put_right.Tie as tie
 use Rattle.watch_text.proofs.put_right.Reads as reads

@@ -1,8 +1,8 @@
-use Rattle.watch_text.specs.Text.{putAll, right, thousandths}
-use Prim.Native.Nat.{ℕ}
 use mathlib.Core.Bool.{false}
 use mathlib.Core.Path.{ap, _∙_}
+use Prim.Native.Nat.{ℕ}
 use borrow.Author.Needs.{needs}
+use Rattle.watch_text.specs.Text.{putAll, right, thousandths}
 use Rattle.watch_text.proofs.put_seconds.Statement.{statement}
 use Rattle.watch_text.proofs.put_seconds.Tie as tie
 use Rattle.watch_text.proofs.put_seconds.Reads as reads

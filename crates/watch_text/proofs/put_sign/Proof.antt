@@ -1,5 +1,5 @@
-use Rattle.watch_text.specs.Text.{putAll}
 use borrow.Author.Needs.{needs}
+use Rattle.watch_text.specs.Text.{putAll}
 use Rattle.watch_text.proofs.put_sign.Statement.{statement}
 use Rattle.watch_text.proofs.put_sign.Tie as tie
 use Rattle.watch_text.proofs.put_sign.Reads as reads

@@ -1,10 +1,10 @@
-use Rattle.watch_text.proofs.Lines.{put-space}
-use Rattle.watch_text.specs.Text.{Written, putByte, putAll, spaces}
+use mathlib.Core.Path.{_≡_, sym, ap, _∙_}
+use Prim.Native.Nat.{ℕ, _-_, _≤_}
 use native.Mathlib.Omega.{arith}
 use native.Mathlib.Numerals.{add-one}
-use Prim.Native.Nat.{ℕ, _-_, _≤_}
-use mathlib.Core.Path.{_≡_, refl, sym, ap, _∙_}
 use borrow.Author.Needs.{needs}
+use Rattle.watch_text.proofs.Lines.{put-space}
+use Rattle.watch_text.specs.Text.{Written, putByte, putAll, spaces}
 use Rattle.watch_text.proofs.put_spaces.Statement.{statement}
 use Rattle.watch_text.proofs.put_spaces.Tie as tie
 use Rattle.watch_text.proofs.put_spaces.Reads as reads

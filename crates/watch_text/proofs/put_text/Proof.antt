@@ -1,10 +1,10 @@
+use mathlib.Core.Path.{_≡_}
+use Prim.Native.Nat.{_-_, _≤_}
+use native.Mathlib.Omega.{arith}
+use lib.ListN.{length, take}
+use borrow.Author.Needs.{needs}
 use Rattle.watch_text.specs.Text.{putByte, putAll}
 use Rattle.laws.proofs.Folds.{fold-next, fold-done}
-use lib.ListN.{length, take}
-use native.Mathlib.Omega.{arith}
-use Prim.Native.Nat.{_-_, _≤_}
-use mathlib.Core.Path.{_≡_, refl}
-use borrow.Author.Needs.{needs}
 use Rattle.watch_text.proofs.put_text.Statement.{statement}
 use Rattle.watch_text.proofs.put_text.Tie as tie
 use Rattle.watch_text.proofs.put_text.Reads as reads

@@ -1,8 +1,7 @@
-use Rattle.watch_text.proofs.Lines.{decimal-is, whole-put}
+use Prim.Native.Nat.{_-_}
 use native.Mathlib.Omega.{arith}
-use Prim.Native.Nat.{ℕ, _-_}
-use mathlib.Core.Path.{ap, _∙_}
 use borrow.Author.Needs.{needs}
+use Rattle.watch_text.proofs.Lines.{decimal-is, whole-put}
 use Rattle.watch_text.proofs.put_whole.Statement.{statement}
 use Rattle.watch_text.proofs.put_whole.Tie as tie
 use Rattle.watch_text.proofs.put_whole.Reads as reads

@@ -1,5 +1,5 @@
-use Rattle.laws.proofs.Texts.{same-answer}
 use borrow.Author.Needs.{needs}
+use Rattle.laws.proofs.Texts.{same-answer}
 use Rattle.watch_words.proofs.is.Statement.{statement}
 use Rattle.watch_words.proofs.is.Tie as tie
 use Rattle.watch_words.proofs.is.Reads as reads

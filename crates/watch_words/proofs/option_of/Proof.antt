@@ -1,6 +1,6 @@
-use Rattle.watch_words.specs.Words.{named}
 use mathlib.Core.Path.{sym, _∙_}
 use borrow.Author.Needs.{needs}
+use Rattle.watch_words.specs.Words.{named}
 use Rattle.watch_words.proofs.option_of.Statement.{statement}
 use Rattle.watch_words.proofs.option_of.Tie as tie
 use Rattle.watch_words.proofs.option_of.Reads as reads

@@ -1,6 +1,6 @@
-use Rattle.watch_words.specs.Words.{anyTaken}
-use mathlib.Core.Path.{_≡_, sym, ap, _∙_}
+use mathlib.Core.Path.{sym, ap, _∙_}
 use borrow.Author.Needs.{needs}
+use Rattle.watch_words.specs.Words.{anyTaken}
 use Rattle.watch_words.proofs.take_any.Statement.{statement}
 use Rattle.watch_words.proofs.take_any.Tie as tie
 use Rattle.watch_words.proofs.take_any.Reads as reads

@@ -1,7 +1,7 @@
+use mathlib.Core.Path.{ap, _∙_}
+use borrow.Author.Needs.{needs}
 use Rattle.watch_words.proofs.Takes.{no-list, listed}
 use Rattle.watch_words.specs.Words.{lengthsTaken}
-use mathlib.Core.Path.{_≡_, sym, ap, _∙_}
-use borrow.Author.Needs.{needs}
 use Rattle.watch_words.proofs.take_lengths.Statement.{statement}
 use Rattle.watch_words.proofs.take_lengths.Tie as tie
 use Rattle.watch_words.proofs.take_lengths.Reads as reads

@@ -1,6 +1,6 @@
-use Rattle.watch_words.specs.Words.{levelTaken, readLevel}
-use mathlib.Core.Path.{_≡_, sym, ap, _∙_}
+use mathlib.Core.Path.{sym, ap, _∙_}
 use borrow.Author.Needs.{needs}
+use Rattle.watch_words.specs.Words.{levelTaken, readLevel}
 use Rattle.watch_words.proofs.take_level.Statement.{statement}
 use Rattle.watch_words.proofs.take_level.Tie as tie
 use Rattle.watch_words.proofs.take_level.Reads as reads

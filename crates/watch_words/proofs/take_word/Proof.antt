@@ -1,5 +1,5 @@
-use Rattle.watch_words.proofs.Takes.{after-fault, any-due, lengths-due, level-due}
 use borrow.Author.Needs.{needs}
+use Rattle.watch_words.proofs.Takes.{after-fault, any-due, lengths-due, level-due}
 use Rattle.watch_words.proofs.take_word.Statement.{statement}
 use Rattle.watch_words.proofs.take_word.Tie as tie
 use Rattle.watch_words.proofs.take_word.Reads as reads

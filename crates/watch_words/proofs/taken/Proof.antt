@@ -1,6 +1,6 @@
-use Rattle.watch_words.specs.Words.{allTaken}
 use borrow.Author.Tests.{ne-eqb}
 use borrow.Author.Needs.{needs}
+use Rattle.watch_words.specs.Words.{allTaken}
 use Rattle.watch_words.proofs.taken.Statement.{statement}
 use Rattle.watch_words.proofs.taken.Tie as tie
 use Rattle.watch_words.proofs.taken.Reads as reads

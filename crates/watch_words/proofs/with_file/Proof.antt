@@ -1,6 +1,6 @@
-use Rattle.watch_words.specs.Words.{withFile}
 use borrow.Author.Tests.{ne-eqb}
 use borrow.Author.Needs.{needs}
+use Rattle.watch_words.specs.Words.{withFile}
 use Rattle.watch_words.proofs.with_file.Statement.{statement}
 use Rattle.watch_words.proofs.with_file.Tie as tie
 use Rattle.watch_words.proofs.with_file.Reads as reads

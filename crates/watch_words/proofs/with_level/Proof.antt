@@ -1,5 +1,5 @@
-use Rattle.watch_words.specs.Words.{withLevel}
 use borrow.Author.Tests.{ne-eqb}
+use Rattle.watch_words.specs.Words.{withLevel}
 use Rattle.watch_words.proofs.with_level.Statement.{statement}
 use Rattle.watch_words.proofs.with_level.Tie as tie
 use Rattle.watch_words.proofs.with_level.Reads as reads

@@ -1,6 +1,6 @@
-use Rattle.watch_words.specs.Words.{wordOf}
 use borrow.Author.Tests.{ne-eqb, lt-ltb, le-ltb}
 use borrow.Author.Needs.{needs}
+use Rattle.watch_words.specs.Words.{wordOf}
 use Rattle.watch_words.proofs.word_of.Statement.{statement}
 use Rattle.watch_words.proofs.word_of.Tie as tie
 use Rattle.watch_words.proofs.word_of.Reads as reads

@@ -1,14 +1,14 @@
-use Rattle.watch_core.proofs.Fills.{filled, lent}
-use Rattle.watch_core.specs.States.{changeAt, eventsAfter}
-use Rattle.laws.proofs.Tabs.{fill-begins, fill-next}
-use Rattle.laws.specs.Lists.{splice, tab}
+use mathlib.Core.List.{List}
+use mathlib.Core.Path.{_≡_, _∙_}
+use Prim.Native.Nat.{ℕ, _-_, _≤_}
+use native.Mathlib.Omega.{arith}
 use lib.ListN.{length, getD, length-set}
 use lib.Bits.{bitOr}
-use native.Mathlib.Omega.{arith}
-use Prim.Native.Nat.{ℕ, _-_, _≤_}
-use mathlib.Core.List.{List}
-use mathlib.Core.Path.{_≡_, refl, sym, ap, _∙_}
 use borrow.Author.Needs.{needs}
+use Rattle.watch_core.proofs.Fills.{filled, lent}
+use Rattle.watch_core.specs.States.{changeAt, eventsAfter}
+use Rattle.laws.proofs.Tabs.{fill-next}
+use Rattle.laws.specs.Lists.{splice, tab}
 use Rattle.watch_core.proofs.states.add_events.Statement.{statement}
 use Rattle.watch_core.proofs.states.add_events.Tie as tie
 use Rattle.watch_core.proofs.states.add_events.Reads as reads

@@ -1,11 +1,11 @@
-use Rattle.watch_core.proofs.Fills.{filled}
-use Rattle.laws.proofs.Tabs.{fill-begins, fill-next}
-use Rattle.laws.specs.Lists.{splice, tab}
-use lib.ListN.{length, length-set}
-use native.Mathlib.Omega.{arith}
+use mathlib.Core.Path.{_≡_, refl, _∙_}
 use Prim.Native.Nat.{ℕ, _-_, _≤_}
-use mathlib.Core.Path.{_≡_, refl, sym, ap, _∙_}
+use native.Mathlib.Omega.{arith}
+use lib.ListN.{length, length-set}
 use borrow.Author.Needs.{needs}
+use Rattle.watch_core.proofs.Fills.{filled}
+use Rattle.laws.proofs.Tabs.{fill-next}
+use Rattle.laws.specs.Lists.{splice, tab}
 use Rattle.watch_core.proofs.states.clear.Statement.{statement}
 use Rattle.watch_core.proofs.states.clear.Tie as tie
 use Rattle.watch_core.proofs.states.clear.Reads as reads
