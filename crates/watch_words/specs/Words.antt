@@ -90,29 +90,78 @@ defaults =
 abbrev pub defaultLengths : List ℕ
 defaultLengths = 15 ∷ 75 ∷ 375 ∷ 0 ∷ 0 ∷ 0 ∷ 0 ∷ 0 ∷ []
 
+-- settings with other values: none is due any more
+abbrev pub valued : Settings → Level → Level → Level → ℕ → Settings
+valued s a b e n =
+    record {
+      on = a;
+      off = b;
+      early = e;
+      lengths = n;
+      «is_csv» = s .«is_csv»;
+      «has_reference» = s .«has_reference»;
+      «is_help» = s .«is_help»;
+      file = s .file;
+      due = any;
+      fault = s .fault;
+      word = s .word;
+    }
+
+-- settings that ask for other things
+abbrev pub asking : Settings → Bool → Bool → Bool → ℕ → Settings
+asking s csv reference help i =
+    record {
+      on = s .on;
+      off = s .off;
+      early = s .early;
+      lengths = s .lengths;
+      «is_csv» = csv;
+      «has_reference» = reference;
+      «is_help» = help;
+      file = i;
+      due = s .due;
+      fault = s .fault;
+      word = s .word;
+    }
+
+-- settings of which word i says what is due or wrong
+abbrev pub noted : Settings → ℕ → ℕ → ℕ → Settings
+noted s d f i =
+    record {
+      on = s .on;
+      off = s .off;
+      early = s .early;
+      lengths = s .lengths;
+      «is_csv» = s .«is_csv»;
+      «has_reference» = s .«has_reference»;
+      «is_help» = s .«is_help»;
+      file = s .file;
+      due = d;
+      fault = f;
+      word = i;
+    }
+
 -- word i has this fault
 abbrev pub faulty : Settings → ℕ → ℕ → Settings
-faulty s f i = record { on = s .on; off = s .off; early = s .early; lengths = s .lengths; «is_csv» = s .«is_csv»; «has_reference» = s .«has_reference»; «is_help» = s .«is_help»; file = s .file; due = s .due; fault = f; word = i }
+faulty s f i = noted s (s .due) f i
 
 -- word i is an option whose value is due
 abbrev pub awaiting : Settings → ℕ → ℕ → Settings
-awaiting s d i = record { on = s .on; off = s .off; early = s .early; lengths = s .lengths; «is_csv» = s .«is_csv»; «has_reference» = s .«has_reference»; «is_help» = s .«is_help»; file = s .file; due = d; fault = s .fault; word = i }
-
--- the recording is word i
-abbrev pub filed : Settings → ℕ → Settings
-filed s i = record { on = s .on; off = s .off; early = s .early; lengths = s .lengths; «is_csv» = s .«is_csv»; «has_reference» = s .«has_reference»; «is_help» = s .«is_help»; file = i; due = s .due; fault = s .fault; word = s .word }
+awaiting s d i = noted s d (s .fault) i
 
 -- what is to be printed
 abbrev pub printing : Settings → Bool → Bool → Bool → Settings
-printing s csv reference help = record { on = s .on; off = s .off; early = s .early; lengths = s .lengths; «is_csv» = csv; «has_reference» = reference; «is_help» = help; file = s .file; due = s .due; fault = s .fault; word = s .word }
+printing s csv reference help = asking s csv reference help (s .file)
 
--- the levels, once a value was taken
+-- the recording is word i
+abbrev pub filed : Settings → ℕ → Settings
+filed s i = asking s (s .«is_csv») (s .«has_reference») (s .«is_help») i
+
 abbrev pub levelled : Settings → Level → Level → Level → Settings
-levelled s a b e = record { on = a; off = b; early = e; lengths = s .lengths; «is_csv» = s .«is_csv»; «has_reference» = s .«has_reference»; «is_help» = s .«is_help»; file = s .file; due = any; fault = s .fault; word = s .word }
+levelled s a b e = valued s a b e (s .lengths)
 
--- the number of lengths, once a list was taken
 abbrev pub counting : Settings → ℕ → Settings
-counting s n = record { on = s .on; off = s .off; early = s .early; lengths = n; «is_csv» = s .«is_csv»; «has_reference» = s .«has_reference»; «is_help» = s .«is_help»; file = s .file; due = any; fault = s .fault; word = s .word }
+counting s n = valued s (s .on) (s .off) (s .early) n
 
 -- a second recording is a fault
 unfoldable pub withFile : Settings → ℕ → Settings

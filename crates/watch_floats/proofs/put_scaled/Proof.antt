@@ -39,7 +39,7 @@ put-text-requires c κs = search needs
 -- src/lib.rt:113:9
 returns : tie.Need-returns
 unfolding scaledText
-returns c = rw (lt-ltb (c .before .before .before .before .before .before .before .before .before .args .s .tens) 100 (c .before .before .before .before .before .before .before .before .if1 .taken)) (ended (c .before .before .before .before .before .before .before .before .before .args .line .now, c .before .before .before .before .before .before .before .before .before .args .at) _ _ (c .before .before .before .before .before .before .before .before .before .args .width) (c .before .before .before .before .before .before .missing .result) 4 _ _ _ (c .before .before .before .before .before .before .missing .ensures) refl (c .before .before .before .before .before .put-db .ensures) (c .put-text .ensures) (cc (c .before .before .before .glyph .ensures, c .before .before .glyph2 .ensures)))
+returns c = rw (lt-ltb (c .before .before .before .before .before .before .before .before .before .args .s .tens) 100 (c .before .before .before .before .before .before .before .before .if1 .taken)) (ended (c .before .before .before .before .before .before .before .before .before .args .line .now, c .before .before .before .before .before .before .before .before .before .args .at) _ _ (c .before .before .before .before .before .before .before .before .before .args .width) (c .before .before .before .before .before .before .missing .result) 4 _ _ _ (c .before .before .before .before .before .before .missing .ensures) refl (c .before .before .before .before .before .put-db .ensures) (c .put-text .ensures) (simp (c .before .before .before .glyph .ensures, c .before .before .glyph2 .ensures)))
 
 -- src/lib.rt:115:37
 missing-requires-2 : tie.Need-missing-requires-2
@@ -72,7 +72,7 @@ put-text-requires-2 c κs = search needs
 -- src/lib.rt:107:1
 returns-2 : tie.Need-returns-2
 unfolding scaledText
-returns-2 c = rw (le-ltb (c .before .before .before .before .before .before .before .before .before .before .args .s .tens) 100 (c .before .before .before .before .before .before .before .before .before .if1 .left)) (ended (c .before .before .before .before .before .before .before .before .before .before .args .line .now, c .before .before .before .before .before .before .before .before .before .before .args .at) _ _ (c .before .before .before .before .before .before .before .before .before .before .args .width) (c .before .before .before .before .before .before .before .missing2 .result) 5 _ _ _ (c .before .before .before .before .before .before .before .missing2 .ensures) refl (c .before .before .before .before .before .before .put-db2 .ensures) (c .put-text2 .ensures) (cc (c .before .before .before .before .glyph3 .ensures, c .before .before .before .glyph4 .ensures, c .before .before .glyph5 .ensures)))
+returns-2 c = rw (le-ltb (c .before .before .before .before .before .before .before .before .before .before .args .s .tens) 100 (c .before .before .before .before .before .before .before .before .before .if1 .left)) (ended (c .before .before .before .before .before .before .before .before .before .before .args .line .now, c .before .before .before .before .before .before .before .before .before .before .args .at) _ _ (c .before .before .before .before .before .before .before .before .before .before .args .width) (c .before .before .before .before .before .before .before .missing2 .result) 5 _ _ _ (c .before .before .before .before .before .before .before .missing2 .ensures) refl (c .before .before .before .before .before .before .put-db2 .ensures) (c .put-text2 .ensures) (simp (c .before .before .before .before .glyph3 .ensures, c .before .before .before .glyph4 .ensures, c .before .before .glyph5 .ensures)))
 
 pub put-scaled-spec : {M : Type 1} → statement M
 put-scaled-spec =

@@ -49,7 +49,7 @@ returns c =
     ended (c .before .before .before .before .before .before .before .before .before .args .line .now, c .before .before .before .before .before .before .before .before .before .args .at) _ _ (c .before .before .before .before .before .before .before .before .before .args .width) (c .before .before .before .before .before .before .missing .result) 3 _ _ _ (c .before .before .before .before .before .before .missing .ensures) refl
     (c .before .before .before .before .before .put-whole .ensures ∙ ap (λ (b : Bool). putAll (c .before .before .before .before .before .before .before .before .before .args .line .now, c .before .before .before .before .before .before .before .before .before .args .at) (right (c .before .before .before .before .before .before .missing .result) (whole b (c .before .before .before .before .before .before .before .before .before .args .x / 100)))) (c .before .before .before .before .before .before .before .has-sign .ensures))
     (c .put-text .ensures)
-    (cc (c .before .before .before .glyph .ensures, c .before .before .glyph2 .ensures))
+    (simp (c .before .before .before .glyph .ensures, c .before .before .glyph2 .ensures))
 
 pub put-hundredths-spec : {M : Type 1} → statement M
 put-hundredths-spec =

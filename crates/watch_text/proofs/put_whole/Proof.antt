@@ -52,7 +52,7 @@ put-text-requires c κs = search needs
 -- src/lib.rt:94:1
 returns : tie.Need-returns
 returns c =
-    whole-put (c .before .before .before .before .before .before .before .before .before .before .before .before .args .line .now, c .before .before .before .before .before .before .before .before .before .before .before .before .args .at) _ _ _ (c .before .before .before .before .before .before .before .before .before .before .before .before .args .width) (c .before .before .before .before .before .before .before .before .before .before .decimal .result) (c .before .before .before .before .before .before .before .missing2 .result) (c .before .before .before .before .before .before .before .before .before .before .before .before .args .is-below) (c .before .before .before .before .before .before .before .before .before .before .before .before .args .x) _ (c .before .before .before .before .before .before .before .before .before .before .decimal .ensures .0 .1) (decimal-is (c .before .before .before .before .before .before .before .before .before .before .decimal .result) (c .before .before .before .before .before .before .before .before .before .before .before .before .args .x) _ (omega arith) (c .before .before .before .before .before .before .before .before .before .before .decimal .ensures .1 .0) (c .before .before .before .before .before .before .before .before .before .before .decimal .ensures .1 .1)) (cc (c .before .before .before .before .before .before .before .before .before .missing .ensures, c .before .before .before .before .before .before .before .missing2 .ensures, c .before .before .before .before .before .before .before .before .sign-len .ensures)) (c .before .before .before .before .before .put-spaces .ensures) (c .before .before .before .put-sign .ensures) (c .put-text .ensures)
+    whole-put (c .before .before .before .before .before .before .before .before .before .before .before .before .args .line .now, c .before .before .before .before .before .before .before .before .before .before .before .before .args .at) _ _ _ (c .before .before .before .before .before .before .before .before .before .before .before .before .args .width) (c .before .before .before .before .before .before .before .before .before .before .decimal .result) (c .before .before .before .before .before .before .before .missing2 .result) (c .before .before .before .before .before .before .before .before .before .before .before .before .args .is-below) (c .before .before .before .before .before .before .before .before .before .before .before .before .args .x) _ (c .before .before .before .before .before .before .before .before .before .before .decimal .ensures .0 .1) (decimal-is (c .before .before .before .before .before .before .before .before .before .before .decimal .result) (c .before .before .before .before .before .before .before .before .before .before .before .before .args .x) _ (omega arith) (c .before .before .before .before .before .before .before .before .before .before .decimal .ensures .1 .0) (c .before .before .before .before .before .before .before .before .before .before .decimal .ensures .1 .1)) (simp (c .before .before .before .before .before .before .before .before .before .missing .ensures, c .before .before .before .before .before .before .before .missing2 .ensures, c .before .before .before .before .before .before .before .before .sign-len .ensures)) (c .before .before .before .before .before .put-spaces .ensures) (c .before .before .before .put-sign .ensures) (c .put-text .ensures)
 
 pub put-whole-spec : {M : Type 1} → statement M
 put-whole-spec =
