@@ -2,6 +2,7 @@
 use mathlib.Core.Bool.{Bool, true, false, not, _&&_, _||_}
 use mathlib.Core.List.{List}
 use Prim.Native.Nat.{ℕ, _+_, _%_, _^_}
+use lib.Bits.{bitOr}
 use lib.Dec.{eqb}
 use lib.ListN.{length, getD}
 use Rattle.laws.specs.Lists.{tab, one}
@@ -39,3 +40,7 @@ countsAfter counts marks = tab (length counts) (λ k. (getD counts k 0 + one (is
 unfoldable pub risesAfter : List ℕ → List ℕ → List ℕ → List ℕ → List ℕ
 risesAfter counts alive rise drop =
     tab (length counts) (λ k. (getD counts k 0 + one (eqb (changeAt alive rise drop k) 1)) % 2 ^ 64)
+
+-- what was noted, bit by bit, with what the marks of a hop change
+unfoldable pub eventsAfter : List ℕ → List ℕ → List ℕ → List ℕ → List ℕ
+eventsAfter events alive rise drop = tab (length events) (λ k. bitOr (getD events k 0) (changeAt alive rise drop k))

@@ -1,12 +1,12 @@
 // The bytes of a recording.
 ghost use mathlib.Core.Path.{_≡_};
-ghost use Prim.Native.Nat.{_+_, _*_, _%_, _^_, _<_};
-ghost use mathlib.Core.Bool.{false};
+ghost use Prim.Native.Nat.{_+_, _*_, _%_, _<_};
+ghost use mathlib.Core.Bool.{true, false};
 ghost use lib.Dec.{eqb};
 ghost use lib.ListN.{length};
 ghost use Rattle.laws.specs.Lists.{tab};
 ghost use Rattle.low_first.specs.LowFirst.{doubleAt, singleAt};
-ghost use Rattle.watch_core.specs.Recording.{hopBytes, stepOf};
+ghost use Rattle.watch_core.specs.Recording.{hopBytes, placeAt, placeAfter, stepOf};
 use std::num::wrapping_add_u64;
 
 // More channels than a bank takes are refused by the bank; this many fit the buffers.
@@ -48,7 +48,7 @@ pub struct Place {
 
 // The first hop stands behind the two bytes of n.
 pub fn first_place() -> Place
-    ensures { λ r. ⌜ (r .hop ≡ 0) × (r .byte ≡ 2) ⌝ }
+    ensures { λ r. ⌜ r ≡ placeAt 0 2 true ⌝ }
 {
     Place {
         hop: 0,
@@ -59,7 +59,7 @@ pub fn first_place() -> Place
 
 // The place behind a hop of so many bytes. No recording is so long that a sum wraps.
 pub fn next_place(p: Place, size: usize) -> Place
-    ensures { λ r. ⌜ (r .hop ≡ (p .hop + 1) % 2 ^ 64) × (r .byte ≡ (p .byte + size) % 2 ^ 64) ⌝ }
+    ensures { λ r. ⌜ r ≡ placeAfter p size ⌝ }
 {
     Place {
         hop: wrapping_add_u64(p.hop, 1),
@@ -70,7 +70,7 @@ pub fn next_place(p: Place, size: usize) -> Place
 
 // The same place, and no more hops.
 pub fn ended(mut p: Place) -> Place
-    ensures { λ r. ⌜ (r .hop ≡ p .hop) × (r .byte ≡ p .byte) × (r .«is_on» ≡ false) ⌝ }
+    ensures { λ r. ⌜ r ≡ placeAt (p .hop) (p .byte) false ⌝ }
 {
     p.is_on = false;
     p

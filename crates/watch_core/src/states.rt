@@ -1,8 +1,8 @@
 // Which channels are alive. Marks and states are bytes, 1 where set, as the gate writes its marks.
 ghost use mathlib.Core.Path.{_≡_};
 ghost use lib.ListN.{length, getD};
-ghost use Rattle.laws.specs.Lists.{one};
-ghost use Rattle.watch_core.specs.States.{stateAfter, statesAfter, countsAfter, changeOf, changeAt, risesAfter, isSet};
+ghost use Rattle.laws.specs.Lists.{tab, one};
+ghost use Rattle.watch_core.specs.States.{stateAfter, statesAfter, countsAfter, changeOf, changeAt, risesAfter, eventsAfter, isSet};
 use std::num::wrapping_add_u64;
 
 // An idle channel with a rise mark becomes alive; an alive one with a drop mark and no rise mark becomes idle.
@@ -100,13 +100,17 @@ pub fn count_rises(counts: &mut [u64], alive: &[u8], rise: &[u8], drop: &[u8])
 }
 
 // Changes are kept, bit by bit, until the next slow hop.
-pub fn add_events(events: &mut [u8], alive: &[u8], rise: &[u8], drop: &[u8]) {
+pub fn add_events(events: &mut [u8], alive: &[u8], rise: &[u8], drop: &[u8])
+    ensures { λ _. ⌜ now (events .exit) ≡ eventsAfter (now (events .entry)) (now (alive .entry)) (now (rise .entry)) (now (drop .entry)) ⌝ }
+{
     for k in 0..events.len() {
         events[k] = events[k] | change_at(alive, rise, drop, k);
     }
 }
 
-pub fn clear(events: &mut [u8]) {
+pub fn clear(events: &mut [u8])
+    ensures { λ _. ⌜ now (events .exit) ≡ tab (length (now (events .entry))) (λ _. 0) ⌝ }
+{
     for k in 0..events.len() {
         events[k] = 0;
     }

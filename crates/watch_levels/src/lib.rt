@@ -1,107 +1,134 @@
 // Levels as words of the command line, and as the gate takes them.
 ghost use mathlib.Core.Path.{_≡_};
-ghost use Prim.Native.Nat.{_+_, _*_, _≤_, _<_};
+ghost use mathlib.Core.Bool.{false, _&&_};
+ghost use Prim.Native.Nat.{_≤_, _<_};
+ghost use lib.Dec.{eqb, ltb};
+ghost use Rattle.watch_levels.specs.Levels.{nothing as Levels·nothing, wrong as Levels·wrong, pointed, wholeDigit, partDigit};
+ghost use Rattle.watch_levels.specs.Levels.{digit as Levels·digit, step, decimalOf, level, noLevel, wholeEighths, levelOf, signedOf};
 
 // An absent early level, as the gate takes it.
 pub const ABSENT: i32 = 65535;
 
 // What a word has said so far, read as a number in thousandths.
 pub struct Decimal {
-    // What a digit adds: 1,000 before the point, then 100, 10, 1 and nothing.
-    pub unit: u64,
-    pub is_whole: bool,
+    // What the next digit is worth: 1,000 before the point, then 100, 10, 1 and nothing.
+    pub unit: u16,
+    pub thousandths: u64,
     pub has_digit: bool,
     pub is_wrong: bool,
-    pub thousandths: u64,
 }
 
 fn wide(b: u8) -> u64
-    ensures { λ r. ⌜ r < 256 ⌝ }
+    ensures { λ r. ⌜ (r ≡ b) × (r < 256) ⌝ }
 {
     b as u64
 }
 
-fn wrong(d: Decimal) -> Decimal {
-    Decimal {
-        unit: 0,
-        is_whole: false,
-        has_digit: d.has_digit,
-        is_wrong: true,
-        thousandths: 0,
-    }
+fn wide_unit(unit: u16) -> u64
+    ensures { λ r. ⌜ (r ≡ unit) × (r < 65536) ⌝ }
+{
+    unit as u64
 }
 
-// A digit before the point. A number that grows beyond any level is wrong.
-fn whole_digit(d: Decimal, digit: u64) -> Decimal {
-    if d.thousandths > 1000000 {
-        return wrong(d);
-    }
-    if digit > 9 {
-        return wrong(d);
-    }
+fn nothing() -> Decimal
+    ensures { λ r. ⌜ r ≡ Levels·nothing ⌝ }
+{
     Decimal {
         unit: 1000,
-        is_whole: true,
-        has_digit: true,
-        is_wrong: d.is_wrong,
-        thousandths: d.thousandths * 10 + digit * 1000,
+        thousandths: 0,
+        has_digit: false,
+        is_wrong: false,
     }
 }
 
-// What a digit is worth, in thousandths.
-fn worth(unit: u64, digit: u64) -> u64
-    ensures { λ r. ⌜ r < 1000 ⌝ }
+fn wrong() -> Decimal
+    ensures { λ r. ⌜ r ≡ Levels·wrong ⌝ }
 {
-    if digit > 9 {
-        return 0;
-    }
-    match unit {
-        100 => 100 * digit,
-        10 => 10 * digit,
-        1 => digit,
-        _ => 0,
+    Decimal {
+        unit: 0,
+        thousandths: 0,
+        has_digit: false,
+        is_wrong: true,
     }
 }
 
-// A digit behind the point. Below a thousandth only a 0 can stand.
-fn part_digit(d: Decimal, digit: u64) -> Decimal {
-    if d.thousandths > 100000000 {
-        return wrong(d);
+fn point(d: Decimal) -> Decimal
+    ensures { λ r. ⌜ r ≡ pointed d ⌝ }
+{
+    if d.unit == 1000 {
+        return Decimal {
+            unit: 100,
+            thousandths: d.thousandths,
+            has_digit: d.has_digit,
+            is_wrong: false,
+        };
     }
-    if digit > 9 {
-        return wrong(d);
+    wrong()
+}
+
+// Below a thousandth only a 0 can stand.
+fn is_too_fine(unit: u16, digit: u64) -> bool
+    ensures { λ r. ⌜ r ≡ (eqb unit 0 && ltb 0 digit) ⌝ }
+{
+    if unit == 0 {
+        return digit > 0;
+    }
+    false
+}
+
+// A digit behind the point.
+fn part_digit(unit: u16, thousandths: u64, digit: u64) -> Decimal
+    requires { ⌜ thousandths ≤ 100000 ⌝ }
+    requires { ⌜ digit < 256 ⌝ }
+    ensures { λ r. ⌜ r ≡ partDigit unit thousandths digit ⌝ }
+{
+    if is_too_fine(unit, digit) {
+        return wrong();
     }
     Decimal {
-        unit: d.unit / 10,
-        is_whole: false,
+        unit: unit / 10,
+        thousandths: thousandths + wide_unit(unit) * digit,
         has_digit: true,
-        is_wrong: d.is_wrong || (d.unit == 0 && digit > 0),
-        thousandths: d.thousandths + worth(d.unit, digit),
+        is_wrong: false,
     }
 }
 
-fn point(d: Decimal) -> Decimal {
-    Decimal {
-        unit: 100,
-        is_whole: false,
-        has_digit: d.has_digit,
-        is_wrong: d.is_wrong || !d.is_whole,
-        thousandths: d.thousandths,
+fn digit(d: Decimal, digit: u64) -> Decimal
+    requires { ⌜ d .thousandths ≤ 100000 ⌝ }
+    requires { ⌜ digit < 256 ⌝ }
+    ensures { λ r. ⌜ r ≡ Levels·digit d digit ⌝ }
+{
+    if d.unit == 1000 {
+        return Decimal {
+            unit: 1000,
+            thousandths: 10 * d.thousandths + 1000 * digit,
+            has_digit: true,
+            is_wrong: false,
+        };
     }
+    part_digit(d.unit, d.thousandths, digit)
 }
 
-fn decimal_step(d: Decimal, b: u8) -> Decimal {
+fn decimal_step(d: Decimal, b: u8) -> Decimal
+    ensures { λ r. ⌜ r ≡ step d b ⌝ }
+{
+    if d.is_wrong {
+        return wrong();
+    }
+    // No level is so high, whatever follows.
+    if d.thousandths > 100000 {
+        return wrong();
+    }
     if b == b'.' {
         return point(d);
     }
     if b < b'0' {
-        return wrong(d);
+        return wrong();
     }
-    let digit = wide(b - b'0');
-    if d.is_whole {
-        return whole_digit(d, digit);
+    if b > b'9' {
+        return wrong();
     }
-    part_digit(d, digit)
+    digit(d, wide(b - b'0'))
 }
 
 // A level of so many eighths of a dB, 800 at most, or an absent one.
@@ -116,23 +143,24 @@ pub enum LevelWord {
     Wrong,
 }
 
-fn decimal_of(word: &[u8], start: usize) -> Decimal {
-    let mut d = Decimal {
-        unit: 1000,
-        is_whole: true,
-        has_digit: false,
-        is_wrong: false,
-        thousandths: 0,
-    };
-    for i in start..word.len() {
+fn decimal_of(word: &[u8]) -> Decimal
+    ensures { λ r. ⌜ r ≡ decimalOf (now (word .entry)) ⌝ }
+{
+    let mut d = nothing();
+    for i in 0..word.len() {
         d = decimal_step(d, word[i]);
     }
     d
 }
 
 // Whole eighths are 125 thousandths each; a level has at most 800 of them.
-fn whole_eighths(d: Decimal, is_below: bool) -> LevelWord {
-    if d.is_wrong || !d.has_digit {
+fn whole_eighths(d: Decimal, is_below: bool) -> LevelWord
+    ensures { λ r. ⌜ r ≡ wholeEighths d «is_below» ⌝ }
+{
+    if d.is_wrong {
+        return LevelWord::Wrong;
+    }
+    if !d.has_digit {
         return LevelWord::Wrong;
     }
     if d.thousandths > 100000 {
@@ -149,18 +177,22 @@ fn whole_eighths(d: Decimal, is_below: bool) -> LevelWord {
 }
 
 // A level in dB: 8, 6.5, -1.125.
-pub fn level_of(word: &[u8]) -> LevelWord {
+pub fn level_of(word: &[u8]) -> LevelWord
+    ensures { λ r. ⌜ r ≡ levelOf (now (word .entry)) ⌝ }
+{
     if word.len() == 0 {
         return LevelWord::Wrong;
     }
     if word[0] == b'-' {
-        return whole_eighths(decimal_of(word, 1), true);
+        return whole_eighths(decimal_of(&word[1..]), true);
     }
-    whole_eighths(decimal_of(word, 0), false)
+    whole_eighths(decimal_of(word), false)
 }
 
 // A level as the gate takes it.
-pub fn signed(l: Level) -> i32 {
+pub fn signed(l: Level) -> i32
+    ensures { λ r. ⌜ r ≡ signedOf l ⌝ }
+{
     if l.is_absent {
         return ABSENT;
     }
@@ -171,7 +203,9 @@ pub fn signed(l: Level) -> i32 {
     e
 }
 
-pub fn above(eighths: u16) -> Level {
+pub fn above(eighths: u16) -> Level
+    ensures { λ r. ⌜ r ≡ level false eighths ⌝ }
+{
     Level {
         is_below: false,
         eighths: eighths,
@@ -179,7 +213,9 @@ pub fn above(eighths: u16) -> Level {
     }
 }
 
-pub fn absent() -> Level {
+pub fn absent() -> Level
+    ensures { λ r. ⌜ r ≡ noLevel ⌝ }
+{
     Level {
         is_below: false,
         eighths: 0,

@@ -1,8 +1,12 @@
 // Lines of text, and numbers as people read them.
 ghost use mathlib.Core.Path.{_≡_};
-ghost use Prim.Native.Nat.{_+_, _*_, _/_, _%_, _≤_, _<_};
-ghost use Rattle.watch_text.specs.Text.{putByte, putAll};
-ghost use Rattle.watch_text.specs.Text.{millis as Text·millis};
+ghost use mathlib.Core.Bool.{false, _&&_};
+ghost use Prim.Native.Nat.{_-_};
+ghost use lib.Dec.{ltb};
+ghost use lib.ListN.{length};
+ghost use Rattle.laws.specs.Lists.{one};
+ghost use Rattle.watch_text.specs.Text.{putByte, putAll, spaces, right, decimal, sign, whole, hundredths, thousandths};
+ghost use Rattle.watch_text.specs.Text.{glyph as Text·glyph, millis as Text·millis};
 
 // A line that is being written: what is beyond its end is left out.
 pub const LINE: usize = 200;
@@ -28,8 +32,9 @@ pub fn put_text(line: &mut [u8; LINE], at: usize, text: &[u8]) -> usize
     end
 }
 
-// So many spaces, and no more than a line has.
-pub fn put_spaces(line: &mut [u8; LINE], at: usize, count: usize) -> usize {
+pub fn put_spaces(line: &mut [u8; LINE], at: usize, count: usize) -> usize
+    ensures { λ r. ⌜ (now (line .exit), r) ≡ putAll (now (line .entry), at) (spaces count) ⌝ }
+{
     let mut end = at;
     for i in 0..count {
         end = put(line, end, b' ');
@@ -39,53 +44,72 @@ pub fn put_spaces(line: &mut [u8; LINE], at: usize, count: usize) -> usize {
 
 // What is missing to a width.
 pub fn missing(width: usize, len: usize) -> usize
-    ensures { λ r. ⌜ r ≤ width ⌝ }
+    ensures { λ r. ⌜ r ≡ width - len ⌝ }
 {
-    if len < width { width - len } else { 0 }
+    if len < width {
+        return width - len;
+    }
+    0
 }
 
 // Text at the right of a column.
-pub fn put_right(line: &mut [u8; LINE], at: usize, text: &[u8], width: usize) -> usize {
-    let at = put_spaces(line, at, missing(width, text.len()));
-    put_text(line, at, text)
+pub fn put_right(line: &mut [u8; LINE], at: usize, text: &[u8], width: usize) -> usize
+    ensures { λ r. ⌜ (now (line .exit), r) ≡ putAll (now (line .entry), at) (right width (now (text .entry))) ⌝ }
+{
+    let start = put_spaces(line, at, missing(width, text.len()));
+    put_text(line, start, text)
 }
 
 // A whole number at the right of a column.
-pub fn put_number(line: &mut [u8; LINE], at: usize, x: u64, width: usize) -> usize {
+pub fn put_number(line: &mut [u8; LINE], at: usize, x: u64, width: usize) -> usize
+    ensures { λ r. ⌜ (now (line .exit), r) ≡ putAll (now (line .entry), at) (right width (decimal x)) ⌝ }
+{
     let mut digits = [0u8; 20];
     let k = io::decimal(x, &mut digits);
     put_right(line, at, &digits[..k], width)
 }
 
-pub fn glyph(digit: u64) -> u8 {
+pub fn glyph(digit: u64) -> u8
+    ensures { λ r. ⌜ r ≡ Text·glyph digit ⌝ }
+{
     b'0' + (digit % 10) as u8
 }
 
 fn sign_len(is_below: bool) -> usize
-    ensures { λ r. ⌜ r ≤ 1 ⌝ }
+    ensures { λ r. ⌜ r ≡ one «is_below» ⌝ }
 {
     if is_below { 1 } else { 0 }
 }
 
-fn put_sign(line: &mut [u8; LINE], at: usize, is_below: bool) -> usize {
-    if is_below { put(line, at, b'-') } else { at }
+fn put_sign(line: &mut [u8; LINE], at: usize, is_below: bool) -> usize
+    ensures { λ r. ⌜ (now (line .exit), r) ≡ putAll (now (line .entry), at) (sign «is_below») ⌝ }
+{
+    if is_below {
+        return put(line, at, b'-');
+    }
+    at
 }
 
-// A whole number with its sign, at the right of what `behind` more bytes leave of a column.
-fn put_whole(
-    line: &mut [u8; LINE],
-    at: usize,
-    is_below: bool,
-    x: u64,
-    width: usize,
-    behind: usize,
-) -> usize {
+// A whole number with its sign, at the right of a column.
+fn put_whole(line: &mut [u8; LINE], at: usize, is_below: bool, x: u64, width: usize) -> usize
+    ensures { λ r. ⌜ (now (line .exit), r) ≡ putAll (now (line .entry), at) (right width (whole «is_below» x)) ⌝ }
+{
     let mut digits = [0u8; 20];
     let k = io::decimal(x, &mut digits);
-    let room = missing(missing(missing(width, behind), k), sign_len(is_below));
-    let at = put_spaces(line, at, room);
-    let at = put_sign(line, at, is_below);
-    put_text(line, at, &digits[..k])
+    let room = missing(missing(width, k), sign_len(is_below));
+    let start = put_spaces(line, at, room);
+    let end = put_sign(line, start, is_below);
+    put_text(line, end, &digits[..k])
+}
+
+// Nothing below zero is written as -0.
+fn has_sign(is_below: bool, x: u64) -> bool
+    ensures { λ r. ⌜ r ≡ («is_below» && ltb 0 x) ⌝ }
+{
+    if is_below {
+        return x > 0;
+    }
+    false
 }
 
 // Hundredths, with two decimals.
@@ -95,11 +119,11 @@ pub fn put_hundredths(
     is_below: bool,
     x: u64,
     width: usize,
-) -> usize {
-    let at = put_whole(line, at, is_below && x > 0, x / 100, width, 3);
-    let at = put(line, at, b'.');
-    let at = put(line, at, glyph(x / 10));
-    put(line, at, glyph(x))
+) -> usize
+    ensures { λ r. ⌜ (now (line .exit), r) ≡ putAll (now (line .entry), at) (right width (hundredths «is_below» x)) ⌝ }
+{
+    let end = put_whole(line, at, has_sign(is_below, x), x / 100, missing(width, 3));
+    put_text(line, end, &[b'.', glyph(x / 10), glyph(x)])
 }
 
 // Thousandths, with three decimals.
@@ -109,12 +133,11 @@ pub fn put_thousandths(
     is_below: bool,
     x: u64,
     width: usize,
-) -> usize {
-    let at = put_whole(line, at, is_below && x > 0, x / 1000, width, 4);
-    let at = put(line, at, b'.');
-    let at = put(line, at, glyph(x / 100));
-    let at = put(line, at, glyph(x / 10));
-    put(line, at, glyph(x))
+) -> usize
+    ensures { λ r. ⌜ (now (line .exit), r) ≡ putAll (now (line .entry), at) (right width (thousandths «is_below» x)) ⌝ }
+{
+    let end = put_whole(line, at, has_sign(is_below, x), x / 1000, missing(width, 4));
+    put_text(line, end, &[b'.', glyph(x / 100), glyph(x / 10), glyph(x)])
 }
 
 // Hops in thousandths of a second, 375 hops to the second, rounded down.
@@ -125,6 +148,8 @@ pub fn millis(hop: u64) -> u64
 }
 
 // Hops as seconds.
-pub fn put_seconds(line: &mut [u8; LINE], at: usize, hop: u64, width: usize) -> usize {
+pub fn put_seconds(line: &mut [u8; LINE], at: usize, hop: u64, width: usize) -> usize
+    ensures { λ r. ⌜ (now (line .exit), r) ≡ putAll (now (line .entry), at) (right width (thousandths false (Text·millis hop))) ⌝ }
+{
     put_thousandths(line, at, false, millis(hop), width)
 }

@@ -1,5 +1,12 @@
 // The words of the command line: options with their values, and the name of the recording.
 ghost use mathlib.Core.Path.{_≡_};
+ghost use mathlib.Core.Bool.{_&&_};
+ghost use lib.Dec.{eqb};
+ghost use Rattle.laws.specs.Texts.{ascii, sameBytes};
+ghost use Rattle.watch_words.specs.Words.{named, options, wordOf, defaults, defaultLengths, faulty as Words·faulty};
+ghost use Rattle.watch_words.specs.Words.{awaiting as Words·awaiting, withFile, printing, anyTaken, withLevel, levelTaken, lengthsTaken};
+ghost use Rattle.watch_words.specs.Words.{earlyValue, wordTaken, allTaken};
+ghost use Rattle.watch_lengths.specs.Lengths.{lengthsOf};
 use check::same;
 use watch_lengths::lengths_of;
 use watch_levels::Level;
@@ -21,33 +28,46 @@ pub enum Word {
     File,
 }
 
-fn option_of(word: &[u8]) -> Word {
-    if same(word, b"--help") || same(word, b"-h") {
+fn is(word: &[u8], name: &[u8]) -> bool
+    ensures { λ r. ⌜ r ≡ sameBytes (now (word .entry)) (now (name .entry)) ⌝ }
+{
+    same(word, name)
+}
+
+fn option_of(word: &[u8]) -> Word
+    ensures { λ r. ⌜ r ≡ named (now (word .entry)) options ⌝ }
+{
+    if is(word, b"--help") {
         return Word::Help;
     }
-    if same(word, b"--csv") {
+    if is(word, b"-h") {
+        return Word::Help;
+    }
+    if is(word, b"--csv") {
         return Word::Csv;
     }
-    if same(word, b"--reference") {
+    if is(word, b"--reference") {
         return Word::Reference;
     }
-    if same(word, b"--on") {
+    if is(word, b"--on") {
         return Word::On;
     }
-    if same(word, b"--off") {
+    if is(word, b"--off") {
         return Word::Off;
     }
-    if same(word, b"--early") {
+    if is(word, b"--early") {
         return Word::Early;
     }
-    if same(word, b"--lengths") {
+    if is(word, b"--lengths") {
         return Word::Lengths;
     }
     Word::Unknown
 }
 
 // A word that begins with - is an option, and - alone is standard input.
-pub fn word_of(word: &[u8]) -> Word {
+pub fn word_of(word: &[u8]) -> Word
+    ensures { λ r. ⌜ r ≡ wordOf (now (word .entry)) ⌝ }
+{
     if word.len() < 2 {
         return Word::File;
     }
@@ -103,7 +123,9 @@ pub struct Settings {
 // Levels in eighths of a dB. A keyed channel is down for about half of the time, so over a second its mean is some 3 dB below its
 // marks, and the floor, a lower quartile, is some 5 dB below the mean of noise: 9 dB over the floor is 4 dB over the noise's mean,
 // which noise does not reach in two windows of 15 hops on end, and 6 dB to stay alive bridges the gaps between words of a weak caller.
-pub fn default_settings() -> Settings {
+pub fn default_settings() -> Settings
+    ensures { λ r. ⌜ r ≡ defaults ⌝ }
+{
     let on = above(72);
     let off = above(48);
     let early = absent();
@@ -123,23 +145,31 @@ pub fn default_settings() -> Settings {
 }
 
 // 40 ms, 200 ms and 1 s: a dash, a letter, a word.
-pub fn default_lengths() -> [u16; 8] {
+pub fn default_lengths() -> [u16; 8]
+    ensures { λ r. ⌜ r ≡ defaultLengths ⌝ }
+{
     [15, 75, 375, 0, 0, 0, 0, 0]
 }
 
-pub fn faulty(mut s: Settings, fault: u8, i: usize) -> Settings {
+pub fn faulty(mut s: Settings, fault: u8, i: usize) -> Settings
+    ensures { λ r. ⌜ r ≡ Words·faulty s fault i ⌝ }
+{
     s.fault = fault;
     s.word = i;
     s
 }
 
-fn awaiting(mut s: Settings, due: u8, i: usize) -> Settings {
+fn awaiting(mut s: Settings, due: u8, i: usize) -> Settings
+    ensures { λ r. ⌜ r ≡ Words·awaiting s due i ⌝ }
+{
     s.due = due;
     s.word = i;
     s
 }
 
-fn with_file(mut s: Settings, i: usize) -> Settings {
+fn with_file(mut s: Settings, i: usize) -> Settings
+    ensures { λ r. ⌜ r ≡ withFile s i ⌝ }
+{
     if s.file != 0 {
         return faulty(s, SECOND_FILE, i);
     }
@@ -147,26 +177,22 @@ fn with_file(mut s: Settings, i: usize) -> Settings {
     s
 }
 
-fn with_help(mut s: Settings) -> Settings {
-    s.is_help = true;
+fn with_printing(mut s: Settings, csv: bool, reference: bool, help: bool) -> Settings
+    ensures { λ r. ⌜ r ≡ printing s csv reference help ⌝ }
+{
+    s.is_csv = csv;
+    s.has_reference = reference;
+    s.is_help = help;
     s
 }
 
-fn with_csv(mut s: Settings) -> Settings {
-    s.is_csv = true;
-    s
-}
-
-fn with_reference(mut s: Settings) -> Settings {
-    s.has_reference = true;
-    s
-}
-
-fn take_any(s: Settings, i: usize, word: &[u8]) -> Settings {
+fn take_any(s: Settings, i: usize, word: &[u8]) -> Settings
+    ensures { λ r. ⌜ r ≡ anyTaken s i (wordOf (now (word .entry))) ⌝ }
+{
     match word_of(word) {
-        Word::Help => with_help(s),
-        Word::Csv => with_csv(s),
-        Word::Reference => with_reference(s),
+        Word::Help => with_printing(s, s.is_csv, s.has_reference, true),
+        Word::Csv => with_printing(s, true, s.has_reference, s.is_help),
+        Word::Reference => with_printing(s, s.is_csv, true, s.is_help),
         Word::On => awaiting(s, ON, i),
         Word::Off => awaiting(s, OFF, i),
         Word::Early => awaiting(s, EARLY, i),
@@ -177,7 +203,9 @@ fn take_any(s: Settings, i: usize, word: &[u8]) -> Settings {
 }
 
 // A level goes where it is due.
-fn with_level(mut s: Settings, l: Level) -> Settings {
+fn with_level(mut s: Settings, l: Level) -> Settings
+    ensures { λ r. ⌜ r ≡ withLevel s l ⌝ }
+{
     let due = s.due;
     s.due = ANY;
     if due == ON {
@@ -192,8 +220,20 @@ fn with_level(mut s: Settings, l: Level) -> Settings {
     s
 }
 
-fn take_level(s: Settings, i: usize, word: &[u8]) -> Settings {
-    if s.due == EARLY && same(word, b"none") {
+// The word for no early level.
+fn is_none(due: u8, word: &[u8]) -> bool
+    ensures { λ r. ⌜ r ≡ (eqb due earlyValue && sameBytes (now (word .entry)) (ascii "none")) ⌝ }
+{
+    if due == EARLY {
+        return is(word, b"none");
+    }
+    false
+}
+
+fn take_level(s: Settings, i: usize, word: &[u8]) -> Settings
+    ensures { λ r. ⌜ r ≡ levelTaken s i (now (word .entry)) ⌝ }
+{
+    if is_none(s.due, word) {
         return with_level(s, absent());
     }
     match level_of(word) {
@@ -202,7 +242,9 @@ fn take_level(s: Settings, i: usize, word: &[u8]) -> Settings {
     }
 }
 
-fn take_lengths(mut s: Settings, i: usize, word: &[u8], lengths: &mut [u16; 8]) -> Settings {
+fn take_lengths(mut s: Settings, i: usize, word: &[u8], lengths: &mut [u16; 8]) -> Settings
+    ensures { λ r. ⌜ (now (lengths .exit), r) ≡ lengthsTaken s i (lengthsOf (now (word .entry)) (now (lengths .entry))) ⌝ }
+{
     let count = lengths_of(word, lengths);
     if count == 0 {
         return faulty(s, BAD_LENGTHS, i);
@@ -213,7 +255,9 @@ fn take_lengths(mut s: Settings, i: usize, word: &[u8], lengths: &mut [u16; 8]) 
 }
 
 // The settings after word i. After a fault nothing changes any more.
-pub fn take_word(s: Settings, i: usize, word: &[u8], lengths: &mut [u16; 8]) -> Settings {
+pub fn take_word(s: Settings, i: usize, word: &[u8], lengths: &mut [u16; 8]) -> Settings
+    ensures { λ r. ⌜ (now (lengths .exit), r) ≡ wordTaken (now (lengths .entry), s) i (now (word .entry)) ⌝ }
+{
     if s.fault != NOTHING {
         return s;
     }
@@ -227,10 +271,15 @@ pub fn take_word(s: Settings, i: usize, word: &[u8], lengths: &mut [u16; 8]) -> 
 }
 
 // The settings after the last word: an option may still lack its value.
-pub fn taken(s: Settings) -> Settings {
-    if s.fault == NOTHING && s.due != ANY {
-        let i = s.word;
-        return faulty(s, NO_VALUE, i);
+pub fn taken(s: Settings) -> Settings
+    ensures { λ r. ⌜ r ≡ allTaken s ⌝ }
+{
+    if s.fault != NOTHING {
+        return s;
     }
-    s
+    if s.due == ANY {
+        return s;
+    }
+    let i = s.word;
+    faulty(s, NO_VALUE, i)
 }

@@ -1,6 +1,6 @@
 use borrow.Author.Tests.{le-ltb, lt-ltb}
-use Rattle.watch_text.specs.Text.{putByte}
 use borrow.Author.Needs.{needs}
+use Rattle.watch_text.specs.Text.{putByte}
 use Rattle.watch_text.proofs.put.Statement.{statement}
 use Rattle.watch_text.proofs.put.Tie as tie
 use Rattle.watch_text.proofs.put.Reads as reads
