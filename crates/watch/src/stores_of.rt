@@ -172,5 +172,5 @@ fn watch_with(
         return;
     }
     head::print_head(name, s, lengths, n);
-    watch_hops::watch::watch_hops(fd, name, s, n, bank, bank_f, gate, gate_f);
+    watch_hops::watch_hops(fd, name, s, n, bank, bank_f, gate, gate_f);
 }

@@ -2,8 +2,8 @@ use mathlib.Core.Path.{sym}
 use native.Mathlib.Omega.{arith}
 use lib.Seq.{length-take-le}
 use borrow.Author.Needs.{needs}
-use Rattle.watch_hops.proofs.watch.watch_hops.Statement.{statement}
-use Rattle.watch_hops.proofs.watch.watch_hops.Tie as tie
+use Rattle.watch_hops.proofs.watch_hops.Statement.{statement}
+use Rattle.watch_hops.proofs.watch_hops.Tie as tie
 
 wide-requires : tie.Need-wide-requires
 wide-requires c κs = search needs

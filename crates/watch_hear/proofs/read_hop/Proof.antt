@@ -2,8 +2,8 @@ use mathlib.Core.Path.{sym}
 use native.Mathlib.Omega.{arith}
 use lib.Seq.{length-take-le}
 use borrow.Author.Needs.{needs}
-use Rattle.watch_hops.proofs.hear.read_hop.Statement.{statement}
-use Rattle.watch_hops.proofs.hear.read_hop.Tie as tie
+use Rattle.watch_hear.proofs.read_hop.Statement.{statement}
+use Rattle.watch_hear.proofs.read_hop.Tie as tie
 
 hop-bytes-requires : tie.Need-hop-bytes-requires
 hop-bytes-requires c κs = search needs

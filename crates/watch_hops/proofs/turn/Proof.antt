@@ -2,8 +2,8 @@ use mathlib.Core.Path.{sym}
 use native.Mathlib.Omega.{arith}
 use lib.Seq.{length-take-le}
 use borrow.Author.Needs.{needs}
-use Rattle.watch_hops.proofs.watch.turn.Statement.{statement}
-use Rattle.watch_hops.proofs.watch.turn.Tie as tie
+use Rattle.watch_hops.proofs.turn.Statement.{statement}
+use Rattle.watch_hops.proofs.turn.Tie as tie
 
 least-requires : tie.Need-least-requires
 least-requires c κs = search needs

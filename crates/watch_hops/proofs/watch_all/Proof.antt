@@ -1,8 +1,8 @@
 use mathlib.Core.Path.{_≡_}
 use lib.ListN.{length}
 use borrow.Author.Needs.{needs}
-use Rattle.watch_hops.proofs.watch.watch_all.Statement.{statement}
-use Rattle.watch_hops.proofs.watch.watch_all.Tie as tie
+use Rattle.watch_hops.proofs.watch_all.Statement.{statement}
+use Rattle.watch_hops.proofs.watch_all.Tie as tie
 
 abbrev Inv-loop : tie.InvT-loop
 Inv-loop fd name s n bank₀ bank-f₀ gate₀ gate-f₀ alive₀ events₀ alive-hops₀ rises₀ place₀ turns₀ bank bank-f gate gate-f alive events alive-hops rises place turns = (length bank ≡ length bank₀) × (length bank-f ≡ length bank-f₀) × (length gate ≡ length gate₀) × (length gate-f ≡ length gate-f₀) × (length alive ≡ length alive₀) × (length events ≡ length events₀) × (length alive-hops ≡ length alive-hops₀) × (length rises ≡ length rises₀)
