@@ -1,10 +1,10 @@
--- `replay::gates::fill_lengths` is safe and ends. Assumes nothing.
+-- `replay_calls::gates::fill_lengths` is safe and ends. Assumes nothing.
 use mathlib.Core.Path.{_≡_}
 use Prim.Native.Nat.{_-_, _≤_}
 use lib.ListN.{length}
 use borrow.Author.Needs.{needs}
-use Rattle.replay.proofs.gates.fill_lengths.Statement.{statement}
-use Rattle.replay.proofs.gates.fill_lengths.Tie as tie
+use Rattle.replay_calls.proofs.gates.fill_lengths.Statement.{statement}
+use Rattle.replay_calls.proofs.gates.fill_lengths.Tie as tie
 
 abbrev Inv-loop : tie.InvT-loop
 Inv-loop list at lengths₀ i₀ i-end lengths i = (i ≤ i-end) × (i-end ≡ length lengths₀) × (length lengths ≡ length lengths₀)

@@ -1,4 +1,5 @@
 // How far a replay is, and what it has counted.
+ghost use Prim.Native.Nat.{_<_};
 use crate::list::after;
 use crate::list::index;
 use low_first::byte_at;
@@ -19,6 +20,19 @@ pub const MOST_GATE_F_LEN: usize = 2308;
 
 // The records start behind the tables.
 const RECORDS: usize = 3072;
+
+// How long the stores of a bank of n are.
+pub fn store_len(n: u8) -> usize {
+    let n = index(n);
+    3 + (n + 31) / 32 + 533 * n
+}
+
+pub fn store_f_len(n: u8) -> usize
+    ensures { λ r. ⌜ r < 1100 ⌝ }
+{
+    let n = index(n);
+    4 * n + 2 * ((n + 31) / 32)
+}
 
 // hop is where the hop stands that the bank heard last; n is the bank's; floats is how long the gate's f64 store is.
 pub struct Replay {

@@ -1,10 +1,10 @@
--- `replay::hop::fill_power` is safe and ends. Assumes nothing.
+-- `replay_data::hop::fill_power` is safe and ends. Assumes nothing.
 use mathlib.Core.Path.{_≡_}
 use Prim.Native.Nat.{_-_, _≤_}
 use lib.ListN.{length}
 use borrow.Author.Needs.{needs}
-use Rattle.replay.proofs.hop.fill_power.Statement.{statement}
-use Rattle.replay.proofs.hop.fill_power.Tie as tie
+use Rattle.replay_data.proofs.hop.fill_power.Statement.{statement}
+use Rattle.replay_data.proofs.hop.fill_power.Tie as tie
 
 abbrev Inv-loop : tie.InvT-loop
 Inv-loop list at power₀ k₀ k-end power k = (k ≤ k-end) × (k-end ≡ length power₀) × (length power ≡ length power₀)

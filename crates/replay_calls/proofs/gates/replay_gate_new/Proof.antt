@@ -1,10 +1,10 @@
--- `replay::gates::replay_gate_new` is safe: the part is within its buffer, as the test before it found. Assumes nothing.
+-- `replay_calls::gates::replay_gate_new` is safe: the part is within its buffer, as the test before it found. Assumes nothing.
 use mathlib.Core.Path.{sym}
 use native.Mathlib.Omega.{arith}
 use lib.Seq.{length-take-le}
 use borrow.Author.Needs.{needs}
-use Rattle.replay.proofs.gates.replay_gate_new.Statement.{statement}
-use Rattle.replay.proofs.gates.replay_gate_new.Tie as tie
+use Rattle.replay_calls.proofs.gates.replay_gate_new.Statement.{statement}
+use Rattle.replay_calls.proofs.gates.replay_gate_new.Tie as tie
 
 byte-at-requires : tie.Need-byte-at-requires
 byte-at-requires c κs = search needs

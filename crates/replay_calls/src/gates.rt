@@ -1,23 +1,23 @@
 // The records of a gate: one call each, with what is due.
-use crate::compare::differing;
-use crate::compare::differing_bytes;
-use crate::compare::one;
-use crate::compare::reading_differs;
-use crate::compare::sum_of;
-use crate::hop::fill_hop;
-use crate::list::after;
-use crate::list::index;
-use crate::list::least;
-use crate::list::wide;
-use crate::state::MOST;
-use crate::state::Replay;
-use crate::state::ended;
-use crate::state::passed;
 use low_first::byte_at;
 use low_first::double_at;
 use low_first::eight_bytes;
 use low_first::two_bytes;
 use model::Reading;
+use replay_data::compare::differing;
+use replay_data::compare::differing_bytes;
+use replay_data::compare::one;
+use replay_data::compare::reading_differs;
+use replay_data::compare::sum_of;
+use replay_data::hop::fill_hop;
+use replay_data::list::after;
+use replay_data::list::index;
+use replay_data::list::least;
+use replay_data::list::wide;
+use replay_data::state::MOST;
+use replay_data::state::Replay;
+use replay_data::state::ended;
+use replay_data::state::passed;
 use std::num::wrapping_add_u64;
 
 // A gate takes 8 lengths; the list may ask for one with more.

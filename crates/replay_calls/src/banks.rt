@@ -1,22 +1,22 @@
 // The records of a bank: one call each, with what is due.
-use crate::compare::differing;
-use crate::compare::floors_differ;
-use crate::compare::one;
-use crate::compare::reading_differs;
-use crate::compare::sum_of;
-use crate::hop::fill_hop;
-use crate::list::after;
-use crate::list::index;
-use crate::list::least;
-use crate::list::wide;
-use crate::records::store_f_len;
-use crate::state::MOST;
-use crate::state::Replay;
-use crate::state::passed;
 use low_first::byte_at;
 use low_first::double_at;
 use low_first::eight_bytes;
 use model::Reading;
+use replay_data::compare::differing;
+use replay_data::compare::floors_differ;
+use replay_data::compare::one;
+use replay_data::compare::reading_differs;
+use replay_data::compare::sum_of;
+use replay_data::hop::fill_hop;
+use replay_data::list::after;
+use replay_data::list::index;
+use replay_data::list::least;
+use replay_data::list::wide;
+use replay_data::state::MOST;
+use replay_data::state::Replay;
+use replay_data::state::passed;
+use replay_data::state::store_f_len;
 use std::num::wrapping_add_u64;
 
 // 1, n, answer: a fresh bank.

@@ -1,10 +1,10 @@
--- `replay::gates::update` is safe: the parts are within their arrays (`least`). Assumes nothing.
+-- `replay_calls::gates::update` is safe: the parts are within their arrays (`least`). Assumes nothing.
 use mathlib.Core.Path.{sym}
 use native.Mathlib.Omega.{arith}
 use lib.Seq.{length-take-le}
 use borrow.Author.Needs.{needs}
-use Rattle.replay.proofs.gates.update.Statement.{statement}
-use Rattle.replay.proofs.gates.update.Tie as tie
+use Rattle.replay_calls.proofs.gates.update.Statement.{statement}
+use Rattle.replay_calls.proofs.gates.update.Tie as tie
 
 index-requires : tie.Need-index-requires
 index-requires c κs = search needs

@@ -1,10 +1,10 @@
--- `replay::compare::sum_of` is safe and ends. Assumes nothing.
+-- `replay_data::compare::sum_of` is safe and ends. Assumes nothing.
 use mathlib.Core.Path.{_≡_}
 use Prim.Native.Nat.{_-_, _≤_}
 use lib.ListN.{length}
 use borrow.Author.Needs.{needs}
-use Rattle.replay.proofs.compare.sum_of.Statement.{statement}
-use Rattle.replay.proofs.compare.sum_of.Tie as tie
+use Rattle.replay_data.proofs.compare.sum_of.Statement.{statement}
+use Rattle.replay_data.proofs.compare.sum_of.Tie as tie
 
 abbrev Inv-loop : tie.InvT-loop
 Inv-loop words sum₀ i₀ i-end sum i = (i ≤ i-end) × (i-end ≡ length words)
