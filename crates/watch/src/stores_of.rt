@@ -1,7 +1,7 @@
 // The stores that a recording needs, on the stack, and their parts.
 use watch_levels::signed;
-use watch_report::faults;
-use watch_report::head;
+use watch_notices::faults;
+use watch_notices::head;
 use watch_words::Settings;
 
 // A bank of 512 channels.

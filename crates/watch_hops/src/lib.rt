@@ -6,7 +6,7 @@ use watch_core::states;
 use watch_figures::least;
 use watch_hear::Heard;
 use watch_hear::hear;
-use watch_report::faults;
+use watch_notices::faults;
 use watch_report::lines;
 use watch_report::tail;
 use watch_words::Settings;

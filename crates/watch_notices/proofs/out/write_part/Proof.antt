@@ -2,8 +2,8 @@ use mathlib.Core.Path.{sym}
 use native.Mathlib.Omega.{arith}
 use lib.Seq.{length-take-le}
 use borrow.Author.Needs.{needs}
-use Rattle.watch_report.proofs.out.write_part.Statement.{statement}
-use Rattle.watch_report.proofs.out.write_part.Tie as tie
+use Rattle.watch_notices.proofs.out.write_part.Statement.{statement}
+use Rattle.watch_notices.proofs.out.write_part.Tie as tie
 
 slice-aggregate-write-all : tie.Need-slice-aggregate-write-all
 slice-aggregate-write-all c = sym (length-take-le _ _ (omega arith))

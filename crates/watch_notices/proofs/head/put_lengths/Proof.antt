@@ -2,8 +2,8 @@ use mathlib.Core.Path.{_≡_}
 use Prim.Native.Nat.{_-_}
 use lib.ListN.{length}
 use borrow.Author.Needs.{needs}
-use Rattle.watch_report.proofs.head.put_lengths.Statement.{statement}
-use Rattle.watch_report.proofs.head.put_lengths.Tie as tie
+use Rattle.watch_notices.proofs.head.put_lengths.Statement.{statement}
+use Rattle.watch_notices.proofs.head.put_lengths.Tie as tie
 
 abbrev Inv-loop : tie.InvT-loop
 Inv-loop line₀ at lengths end₀ i₀ t6 i-end line end i = i-end ≡ length lengths
