@@ -1,18 +1,12 @@
 // Replays a kept list of calls of a bank and a gate and compares what floor.rs answered to them; tests/compare/README.md says how the list is made.
-mod banks;
-mod compare;
-mod gates;
-mod hop;
-mod list;
 mod records;
-mod state;
 
-use state::GATE_LEN;
-use state::MOST;
-use state::MOST_F_LEN;
-use state::MOST_GATE_F_LEN;
-use state::MOST_LEN;
-use state::Replay;
+use replay_data::state::GATE_LEN;
+use replay_data::state::MOST;
+use replay_data::state::MOST_F_LEN;
+use replay_data::state::MOST_GATE_F_LEN;
+use replay_data::state::MOST_LEN;
+use replay_data::state::Replay;
 
 const MOST_BYTES: usize = 500000;
 
@@ -24,7 +18,7 @@ fn replay_list(list: &[u8]) -> Replay {
     let mut gate_f = [0.0f64; MOST_GATE_F_LEN];
     let mut rise = [0u8; MOST];
     let mut drop = [0u8; MOST];
-    let mut r = state::started();
+    let mut r = replay_data::state::started();
     let mut turns = list.len();
     while turns > 0 && r.is_on {
         r = records::replay_turn(

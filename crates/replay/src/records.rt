@@ -1,31 +1,19 @@
 // The next record, on the parts of the buffers that its bank and its gate take.
-ghost use Prim.Native.Nat.{_<_};
-use crate::banks::replay_bank;
-use crate::gates::replay_gate;
-use crate::list::index;
-use crate::list::least;
-use crate::state::GATE_LEN;
-use crate::state::MOST;
-use crate::state::MOST_F_LEN;
-use crate::state::MOST_GATE_F_LEN;
-use crate::state::MOST_LEN;
-use crate::state::Replay;
-use crate::state::ended;
-use crate::state::sized;
 use low_first::byte_at;
-
-// How long the stores of a bank of n are.
-fn store_len(n: u8) -> usize {
-    let n = index(n);
-    3 + (n + 31) / 32 + 533 * n
-}
-
-pub fn store_f_len(n: u8) -> usize
-    ensures { λ r. ⌜ r < 1100 ⌝ }
-{
-    let n = index(n);
-    4 * n + 2 * ((n + 31) / 32)
-}
+use replay_calls::banks::replay_bank;
+use replay_calls::gates::replay_gate;
+use replay_data::list::index;
+use replay_data::list::least;
+use replay_data::state::GATE_LEN;
+use replay_data::state::MOST;
+use replay_data::state::MOST_F_LEN;
+use replay_data::state::MOST_GATE_F_LEN;
+use replay_data::state::MOST_LEN;
+use replay_data::state::Replay;
+use replay_data::state::ended;
+use replay_data::state::sized;
+use replay_data::state::store_f_len;
+use replay_data::state::store_len;
 
 fn replay_record(
     list: &[u8],

@@ -1,7 +1,7 @@
 // The stores that a recording needs, on the stack, and their parts.
 use watch_levels::signed;
-use watch_report::faults;
-use watch_report::head;
+use watch_notices::faults;
+use watch_notices::head;
 use watch_words::Settings;
 
 // A bank of 512 channels.
@@ -172,5 +172,5 @@ fn watch_with(
         return;
     }
     head::print_head(name, s, lengths, n);
-    watch_hops::watch::watch_hops(fd, name, s, n, bank, bank_f, gate, gate_f);
+    watch_hops::watch_hops(fd, name, s, n, bank, bank_f, gate, gate_f);
 }

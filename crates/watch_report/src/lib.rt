@@ -1,6 +1,4 @@
-// What the program `watch` prints of a recording.
-pub mod faults;
-pub mod head;
+// What the program `watch` prints of the hops of a recording.
 pub mod lines;
 mod out;
 pub mod tail;

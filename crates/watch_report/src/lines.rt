@@ -1,7 +1,5 @@
 // What a hop gives to print: a line for each change, or on a slow hop one for each channel.
-use crate::out::cry;
 use crate::out::put_reference;
-use crate::out::say;
 use watch_core::recording;
 use watch_core::states;
 use watch_figures::bit;
@@ -12,6 +10,8 @@ use watch_figures::value;
 use watch_figures::whole_seconds;
 use watch_floats::put_db;
 use watch_floats::put_power;
+use watch_notices::out::cry;
+use watch_notices::out::say;
 use watch_text::LINE;
 use watch_text::put_number;
 use watch_text::put_seconds;

@@ -1,10 +1,10 @@
 // The channels at the end of a report.
 use crate::out::put_reference;
-use crate::out::say;
 use libc::STDOUT_FILENO;
 use watch_core::states;
 use watch_figures::floors_of;
 use watch_floats::put_db;
+use watch_notices::out::say;
 use watch_text::LINE;
 use watch_text::put_number;
 use watch_text::put_seconds;

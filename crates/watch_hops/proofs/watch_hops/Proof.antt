@@ -1,0 +1,75 @@
+use mathlib.Core.Path.{sym}
+use native.Mathlib.Omega.{arith}
+use lib.Seq.{length-take-le}
+use borrow.Author.Needs.{needs}
+use Rattle.watch_hops.proofs.watch_hops.Statement.{statement}
+use Rattle.watch_hops.proofs.watch_hops.Tie as tie
+
+wide-requires : tie.Need-wide-requires
+wide-requires c κs = search needs
+
+least-requires : tie.Need-least-requires
+least-requires c κs = search needs
+
+array-borrow-prefix-alive : tie.Need-array-borrow-prefix-alive
+array-borrow-prefix-alive c = search needs
+
+slice-aggregate-watch-all : tie.Need-slice-aggregate-watch-all
+slice-aggregate-watch-all c = sym (length-take-le _ _ (omega arith))
+
+array-borrow-prefix-events : tie.Need-array-borrow-prefix-events
+array-borrow-prefix-events c = search needs
+
+slice-aggregate-watch-all-2 : tie.Need-slice-aggregate-watch-all-2
+slice-aggregate-watch-all-2 c = sym (length-take-le _ _ (omega arith))
+
+array-borrow-prefix-alive-hops : tie.Need-array-borrow-prefix-alive-hops
+array-borrow-prefix-alive-hops c = search needs
+
+slice-aggregate-watch-all-3 : tie.Need-slice-aggregate-watch-all-3
+slice-aggregate-watch-all-3 c = sym (length-take-le _ _ (omega arith))
+
+array-borrow-prefix-rises : tie.Need-array-borrow-prefix-rises
+array-borrow-prefix-rises c = search needs
+
+slice-aggregate-watch-all-4 : tie.Need-slice-aggregate-watch-all-4
+slice-aggregate-watch-all-4 c = sym (length-take-le _ _ (omega arith))
+
+watch-all-requires : tie.Need-watch-all-requires
+watch-all-requires c κs = search needs
+
+same-length : tie.Need-same-length
+same-length c = search needs
+
+same-length-2 : tie.Need-same-length-2
+same-length-2 c = search needs
+
+same-length-3 : tie.Need-same-length-3
+same-length-3 c = search needs
+
+same-length-4 : tie.Need-same-length-4
+same-length-4 c = search needs
+
+returns : tie.Need-returns
+returns c = search needs
+
+pub watch-hops-spec : {M : Type 1} → statement M
+watch-hops-spec =
+    tie.close
+    (tie.spec
+    wide-requires
+    least-requires
+    array-borrow-prefix-alive
+    slice-aggregate-watch-all
+    array-borrow-prefix-events
+    slice-aggregate-watch-all-2
+    array-borrow-prefix-alive-hops
+    slice-aggregate-watch-all-3
+    array-borrow-prefix-rises
+    slice-aggregate-watch-all-4
+    watch-all-requires
+    same-length
+    same-length-2
+    same-length-3
+    same-length-4
+    returns)

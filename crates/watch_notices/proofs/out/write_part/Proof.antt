@@ -1,0 +1,22 @@
+use mathlib.Core.Path.{sym}
+use native.Mathlib.Omega.{arith}
+use lib.Seq.{length-take-le}
+use borrow.Author.Needs.{needs}
+use Rattle.watch_notices.proofs.out.write_part.Statement.{statement}
+use Rattle.watch_notices.proofs.out.write_part.Tie as tie
+
+slice-aggregate-write-all : tie.Need-slice-aggregate-write-all
+slice-aggregate-write-all c = sym (length-take-le _ _ (omega arith))
+
+write-all-requires : tie.Need-write-all-requires
+write-all-requires c κs = search needs
+
+returns : tie.Need-returns
+returns c = search needs
+
+returns-2 : tie.Need-returns-2
+returns-2 c = search needs
+
+pub write-part-spec : {M : Type 1} → statement M
+write-part-spec =
+    tie.close (tie.spec slice-aggregate-write-all write-all-requires returns returns-2)
