@@ -1,5 +1,5 @@
 -- Which channels are alive, and for how long.
-use mathlib.Core.Bool.{Bool, true, false, not, _&&_, _||_}
+use mathlib.Core.Bool.{Bool, true, false, cond, not, _&&_, _||_}
 use mathlib.Core.List.{List}
 use Prim.Native.Nat.{ℕ, _+_, _%_, _^_}
 use lib.Bits.{bitOr}
@@ -44,3 +44,9 @@ risesAfter counts alive rise drop =
 -- what was noted, bit by bit, with what the marks of a hop change
 unfoldable pub eventsAfter : List ℕ → List ℕ → List ℕ → List ℕ → List ℕ
 eventsAfter events alive rise drop = tab (length events) (λ k. bitOr (getD events k 0) (changeAt alive rise drop k))
+
+-- the end of a hop: the states, the hops alive, and the events, which a slow hop has told
+unfoldable pub hopClosed : Bool → List ℕ → List ℕ → List ℕ → List ℕ → List ℕ → List ℕ × List ℕ × List ℕ
+hopClosed slow alive hops events rise drop =
+    let a = statesAfter alive rise drop in
+    (a, countsAfter hops a, cond slow (tab (length events) (λ _. 0)) events)

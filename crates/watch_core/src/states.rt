@@ -2,7 +2,7 @@
 ghost use mathlib.Core.Path.{_≡_};
 ghost use lib.ListN.{length, getD};
 ghost use Rattle.laws.specs.Lists.{tab, one};
-ghost use Rattle.watch_core.specs.States.{stateAfter, statesAfter, countsAfter, changeOf, changeAt, risesAfter, eventsAfter, isSet};
+ghost use Rattle.watch_core.specs.States.{stateAfter, statesAfter, countsAfter, changeOf, changeAt, risesAfter, eventsAfter, hopClosed, isSet};
 use std::num::wrapping_add_u64;
 
 // An idle channel with a rise mark becomes alive; an alive one with a drop mark and no rise mark becomes idle.
@@ -113,5 +113,23 @@ pub fn clear(events: &mut [u8])
 {
     for k in 0..events.len() {
         events[k] = 0;
+    }
+}
+
+// The end of a hop. A slow hop has told the events.
+pub fn close_hop(
+    is_slow: bool,
+    alive: &mut [u8],
+    alive_hops: &mut [u64],
+    events: &mut [u8],
+    rise: &[u8],
+    drop: &[u8],
+)
+    ensures { λ _. ⌜ (now (alive .exit), now («alive_hops» .exit), now (events .exit)) ≡ hopClosed «is_slow» (now (alive .entry)) (now («alive_hops» .entry)) (now (events .entry)) (now (rise .entry)) (now (drop .entry)) ⌝ }
+{
+    step_states(alive, rise, drop);
+    count_set(alive_hops, alive);
+    if is_slow {
+        clear(events);
     }
 }

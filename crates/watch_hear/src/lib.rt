@@ -4,6 +4,7 @@ use watch_core::recording::MOST;
 use watch_core::recording::MOST_HOP_BYTES;
 use watch_core::recording::Step;
 use watch_figures::least;
+use watch_judge::judge;
 
 // What became of a hop.
 pub enum Heard {
@@ -32,43 +33,6 @@ fn read_hop(fd: i32, n: u16, db: &mut [f64], power: &mut [f32]) -> Step {
     let mut hop = [0u8; MOST_HOP_BYTES];
     let size = least(recording::hop_bytes(n), MOST_HOP_BYTES);
     read_values(fd, n, &mut hop[..size], db, power)
-}
-
-// With static heard the gate holds.
-fn judge_gate(
-    is_static: bool,
-    bank: &[u16],
-    bank_f: &[f64],
-    gate: &mut [u16],
-    gate_f: &mut [f64],
-    db: &[f64],
-    power: &[f32],
-    rise: &mut [u8],
-    drop: &mut [u8],
-) -> u16 {
-    if is_static {
-        return gate::gate_hold(bank, bank_f, gate, gate_f, rise, drop);
-    }
-    gate::gate_update(bank, bank_f, gate, gate_f, db, power, rise, drop)
-}
-
-// The bank and the gate take a hop: 0, or the number of the refusal.
-fn judge(
-    is_static: bool,
-    bank: &mut [u16],
-    bank_f: &mut [f64],
-    gate: &mut [u16],
-    gate_f: &mut [f64],
-    db: &[f64],
-    power: &[f32],
-    rise: &mut [u8],
-    drop: &mut [u8],
-) -> u16 {
-    let no = bank::bank_update_holding_reference(bank, bank_f, db, power, is_static);
-    if no != 0 {
-        return no;
-    }
-    judge_gate(is_static, bank, bank_f, gate, gate_f, db, power, rise, drop)
 }
 
 fn answer(no: u16) -> Heard {

@@ -214,21 +214,13 @@ fn take_hop(
         rise,
         drop,
     );
-    close_hop(place.hop, alive, events, alive_hops, rise, drop);
+    states::close_hop(
+        recording::is_slow(place.hop),
+        alive,
+        alive_hops,
+        events,
+        rise,
+        drop,
+    );
     recording::next_place(place, recording::hop_bytes(n))
-}
-
-fn close_hop(
-    hop: u64,
-    alive: &mut [u8],
-    events: &mut [u8],
-    alive_hops: &mut [u64],
-    rise: &[u8],
-    drop: &[u8],
-) {
-    states::step_states(alive, rise, drop);
-    states::count_set(alive_hops, alive);
-    if recording::is_slow(hop) {
-        states::clear(events);
-    }
 }
