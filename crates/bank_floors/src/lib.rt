@@ -4,7 +4,7 @@ ghost use lib.ListN.{getD};
 ghost use Rattle.model.specs.Bank.{rawFloors};
 ghost use Rattle.model.specs.Stores.{bankF, bankOf};
 ghost use Rattle.model.specs.GoodBank.{Ready};
-ghost use Rattle.bank_steps.specs.Steps.{rawStep, usableStep, blockStep, riseStep};
+ghost use Rattle.bank_stages.specs.Steps.{rawStep, usableStep, blockStep, riseStep};
 
 pub fn raw_floors(bank_f: &mut [f64], bank: &[u16], n: usize)
     requires { ⌜ Ready (now bank) (now «bank_f») × (n ≡ getD (now bank) 0 0) ⌝ }

@@ -7,7 +7,7 @@ ghost use Rattle.model.specs.Ring.{binOf, pushIn};
 ghost use Rattle.model.specs.Stores.{chanU, chanOf, bankU, bankOf};
 ghost use Rattle.model.specs.Sound.{Sound};
 ghost use Rattle.model.specs.GoodBank.{Ready};
-ghost use Rattle.bank_steps.specs.Steps.{Holds, seedStep, pushStep};
+ghost use Rattle.bank_stages.specs.Steps.{Holds, seedStep, pushStep};
 
 // The channel at `a` takes the bin of p.
 fn push_at(bank: &mut [u16], a: usize, p: f64, quiet: bool)

@@ -46,7 +46,7 @@ pub fn spectral_reference(bank: &[u16], bank_f: &[f64], k: usize) -> model::Read
     if no != 0 {
         return model::Reading::Refused(no);
     }
-    model::Reading::Value(channel_readings::reference_at(bank, bank_f, k))
+    model::Reading::Value(reference::reference_at(bank, bank_f, k))
 }
 
 // Effective, rise and raw floor at once.

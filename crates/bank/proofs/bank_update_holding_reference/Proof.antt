@@ -2,7 +2,7 @@
 use mathlib.Core.Path.{sym, _∙_}
 use borrow.Author.Needs.{needs}
 use Rattle.model.specs.Bank.{hop}
-use Rattle.bank_steps.proofs.Stages.{refused, accepted, asked}
+use Rattle.bank_stages.proofs.Stages.{refused, accepted, asked}
 use Rattle.bank.proofs.bank_update_holding_reference.Statement.{statement}
 use Rattle.bank.proofs.bank_update_holding_reference.Tie as tie
 

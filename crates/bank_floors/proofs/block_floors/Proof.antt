@@ -11,7 +11,7 @@ use Rattle.laws.specs.Lists.{part, splice, tab}
 use Rattle.laws.proofs.Lists.{width, length-part}
 use Rattle.laws.proofs.Tabs.{fill-begins, fill-next, length-tab}
 use Rattle.model.specs.Bank.{block, median}
-use Rattle.bank_steps.proofs.Loops.{Fits, fits, block-done, usable-lent}
+use Rattle.bank_stages.proofs.Loops.{Fits, fits, block-done, usable-lent}
 use Rattle.bank_floors.proofs.block_floors.Statement.{statement}
 use Rattle.bank_floors.proofs.block_floors.Tie as tie
 

@@ -12,7 +12,7 @@ use Rattle.laws.proofs.Lists.{width}
 use Rattle.laws.proofs.Tabs.{fill-next}
 use Rattle.model.specs.Ring.{rawFloor}
 use Rattle.model.specs.Stores.{chanOf, chanPart, base}
-use Rattle.bank_steps.proofs.Loops.{Fits, fits, lent, raw-done}
+use Rattle.bank_stages.proofs.Loops.{Fits, fits, lent, raw-done}
 use Rattle.bank_floors.proofs.raw_floors.Statement.{statement}
 use Rattle.bank_floors.proofs.raw_floors.Tie as tie
 

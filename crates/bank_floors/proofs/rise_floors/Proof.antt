@@ -11,7 +11,7 @@ use Rattle.laws.proofs.Tabs.{fill-begins, fill-next, length-tab}
 use Rattle.model.specs.Ring.{since}
 use Rattle.model.specs.Bank.{riseFloor}
 use Rattle.model.specs.Stores.{base}
-use Rattle.bank_steps.proofs.Loops.{Fits, fits, lent, riseAtOf, rise-done, rise-reads}
+use Rattle.bank_stages.proofs.Loops.{Fits, fits, lent, riseAtOf, rise-done, rise-reads}
 use Rattle.bank_floors.proofs.rise_floors.Statement.{statement}
 use Rattle.bank_floors.proofs.rise_floors.Tie as tie
 

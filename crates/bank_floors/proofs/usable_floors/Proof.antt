@@ -12,7 +12,7 @@ use Rattle.laws.proofs.Lists.{width}
 use Rattle.laws.proofs.Tabs.{fill-begins, fill-next}
 use Rattle.model.specs.Ring.{usableFloor}
 use Rattle.model.specs.Stores.{chanOf, chanPart, base}
-use Rattle.bank_steps.proofs.Loops.{Fits, fits, lent, usable-done, raw-at}
+use Rattle.bank_stages.proofs.Loops.{Fits, fits, lent, usable-done, raw-at}
 use Rattle.bank_floors.proofs.usable_floors.Statement.{statement}
 use Rattle.bank_floors.proofs.usable_floors.Tie as tie
 

@@ -8,7 +8,7 @@ use borrow.Author.Needs.{needs}
 use Rattle.laws.specs.Lists.{splice, tab, joined}
 use Rattle.laws.proofs.Tabs.{parts-begin}
 use Rattle.model.specs.Stores.{base}
-use Rattle.bank_steps.proofs.Loops.{Fits, fits, pushedOf, turn-asks, turn-done, push-done}
+use Rattle.bank_stages.proofs.Loops.{Fits, fits, pushedOf, turn-asks, turn-done, push-done}
 use Rattle.bank_pushes.proofs.push_all.Statement.{statement}
 use Rattle.bank_pushes.proofs.push_all.Tie as tie
 

@@ -5,7 +5,7 @@ use lib.ListN.{length}
 use borrow.Author.Needs.{needs}
 use Rattle.laws.proofs.Lists.{width}
 use Rattle.model.specs.Bank.{blocks}
-use Rattle.bank_steps.proofs.Loops.{seeds-ask, seeds-done}
+use Rattle.bank_stages.proofs.Loops.{seeds-ask, seeds-done}
 use Rattle.bank_pushes.proofs.take_seeds.Statement.{statement}
 use Rattle.bank_pushes.proofs.take_seeds.Tie as tie
 

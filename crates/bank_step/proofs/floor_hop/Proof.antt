@@ -8,10 +8,10 @@ use lib.Ieee.{Float}
 use borrow.Author.Needs.{needs}
 use Rattle.model.specs.Bank.{FloorBank, rawFloors}
 use Rattle.model.specs.Stores.{bankOf}
-use Rattle.bank_steps.specs.Steps.{seedStep, pushStep, rawStep, usableStep, blockStep, riseStep, floorStep}
-use Rattle.bank_steps.proofs.Stages.{At, at-start, ready-at, bank-at, both, only-floats, only-u16s, keeps-seed, keeps-push, keeps-raw, keeps-usable, keeps-block, keeps-rise, push-f, raw-u, usable-u, block-u, rise-u, raw-known}
-use Rattle.bank.proofs.floor_hop.Statement.{statement}
-use Rattle.bank.proofs.floor_hop.Tie as tie
+use Rattle.bank_stages.specs.Steps.{seedStep, pushStep, rawStep, usableStep, blockStep, riseStep, floorStep}
+use Rattle.bank_stages.proofs.Stages.{At, at-start, ready-at, bank-at, both, only-floats, only-u16s, keeps-seed, keeps-push, keeps-raw, keeps-usable, keeps-block, keeps-rise, push-f, raw-u, usable-u, block-u, rise-u, raw-known}
+use Rattle.bank_step.proofs.floor_hop.Statement.{statement}
+use Rattle.bank_step.proofs.floor_hop.Tie as tie
 
 abbrev db : tie.Start → List Float
 db s = s .args .power-db .now

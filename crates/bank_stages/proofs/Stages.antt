@@ -24,7 +24,7 @@ use Rattle.model.specs.GoodBank.{Good, Ready}
 use Rattle.model.proofs.BankStores.{bank-forth-u, bank-forth-f}
 use Rattle.model.proofs.GoodBanks.{bank-back, good-ready, ready, length-bankU}
 use Rattle.model.proofs.FreshBanks.{seeds-slow}
-use Rattle.bank_steps.specs.Steps.{Holds, Headed, with, advanced, smoothStep, seedStep, pushStep, rawStep, usableStep, blockStep, riseStep, floorStep, phaseStep}
+use Rattle.bank_stages.specs.Steps.{Holds, Headed, with, advanced, smoothStep, seedStep, pushStep, rawStep, usableStep, blockStep, riseStep, floorStep, phaseStep}
 
 -- ---- each step keeps a bank sound and its number of channels
 

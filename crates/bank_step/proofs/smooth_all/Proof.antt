@@ -8,10 +8,10 @@ use borrow.Author.Needs.{needs}
 use Rattle.laws.specs.Lists.{part}
 use Rattle.laws.proofs.Lists.{width, length-part}
 use Rattle.model.specs.Stores.{bankF, bankOf}
-use Rattle.bank_steps.specs.Steps.{smoothStep}
-use Rattle.bank_steps.proofs.Loops.{Fits, fits, smooth-done, starts, goes-on, held-stays}
-use Rattle.bank.proofs.smooth_all.Statement.{statement}
-use Rattle.bank.proofs.smooth_all.Tie as tie
+use Rattle.bank_stages.specs.Steps.{smoothStep}
+use Rattle.bank_stages.proofs.Loops.{Fits, fits, smooth-done, starts, goes-on, held-stays}
+use Rattle.bank_step.proofs.smooth_all.Statement.{statement}
+use Rattle.bank_step.proofs.smooth_all.Tie as tie
 
 fit : (s : tie.Start) → Fits (s .args .bank .now) (s .args .bank-f .now) (length (s .args .power .now))
 fit s = fits (s .args .bank .now) (s .args .bank-f .now) (length (s .args .power .now)) (s .pre .0) (s .pre .1)

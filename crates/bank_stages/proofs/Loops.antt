@@ -24,7 +24,7 @@ use Rattle.model.proofs.Bins.{bin-below}
 use Rattle.model.specs.GoodBank.{Good, Ready}
 use Rattle.model.proofs.BankStores.{Lengths, bank-forth-u, bank-forth-f, put-raw, put-usable, put-smooth, put-rise, put-block, put-sums, put-seeds, put-chans}
 use Rattle.model.proofs.GoodBanks.{lengths}
-use Rattle.bank_steps.specs.Steps.{Holds, smoothStep, seedStep, pushStep, rawStep, usableStep, blockStep, riseStep}
+use Rattle.bank_stages.specs.Steps.{Holds, smoothStep, seedStep, pushStep, rawStep, usableStep, blockStep, riseStep}
 
 -- ---- what a loop knows of the stores of n channels
 

@@ -3,8 +3,8 @@ use Prim.Native.Nat.{_+_}
 use native.Mathlib.Omega.{arith}
 use native.Mathlib.Nat.{mod-lt}
 use borrow.Author.Needs.{needs}
-use Rattle.channel_readings.proofs.power_above.Statement.{statement}
-use Rattle.channel_readings.proofs.power_above.Tie as tie
+use Rattle.reference.proofs.power_above.Statement.{statement}
+use Rattle.reference.proofs.power_above.Tie as tie
 
 add-power-at : tie.Need-add-power-at
 add-power-at c = search needs

@@ -1,8 +1,8 @@
 -- `channel_readings::reference_at` meets its contract. Assumes nothing.
 use Rattle.channel_readings.proofs.Places.{infinite, taken, reference-read}
 use borrow.Author.Needs.{needs}
-use Rattle.channel_readings.proofs.reference_at.Statement.{statement}
-use Rattle.channel_readings.proofs.reference_at.Tie as tie
+use Rattle.reference.proofs.reference_at.Statement.{statement}
+use Rattle.reference.proofs.reference_at.Tie as tie
 
 shared-slice-read-wide : tie.Need-shared-slice-read-wide
 shared-slice-read-wide c = search needs

@@ -1,10 +1,10 @@
 -- `channel_readings::power_at` meets its contract. Assumes nothing.
 use Prim.Native.Nat.{_*_}
 use native.Mathlib.Omega.{arith}
 use Rattle.channel_readings.proofs.Places.{float-at}
 use borrow.Author.Needs.{needs}
-use Rattle.channel_readings.proofs.power_at.Statement.{statement}
-use Rattle.channel_readings.proofs.power_at.Tie as tie
+use Rattle.reference.proofs.power_at.Statement.{statement}
+use Rattle.reference.proofs.power_at.Tie as tie
 
 mul-result : tie.Need-mul-result
 mul-result c = search needs

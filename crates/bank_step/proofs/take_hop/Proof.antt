@@ -6,10 +6,10 @@ use lib.ListN.{length}
 use borrow.Author.Needs.{needs}
 use Rattle.model.specs.Bank.{FloorBank}
 use Rattle.model.specs.Stores.{bankOf}
-use Rattle.bank_steps.specs.Steps.{smoothStep, floorStep}
-use Rattle.bank_steps.proofs.Stages.{At, at-start, ready-at, both, only-floats, headed, keeps-smooth, keeps-floor, smooth-u, slow-step, fast-step, phase-of, done}
-use Rattle.bank.proofs.take_hop.Statement.{statement}
-use Rattle.bank.proofs.take_hop.Tie as tie
+use Rattle.bank_stages.specs.Steps.{smoothStep, floorStep}
+use Rattle.bank_stages.proofs.Stages.{At, at-start, ready-at, both, only-floats, headed, keeps-smooth, keeps-floor, smooth-u, slow-step, fast-step, phase-of, done}
+use Rattle.bank_step.proofs.take_hop.Statement.{statement}
+use Rattle.bank_step.proofs.take_hop.Tie as tie
 
 abbrev m : tie.Start → ℕ
 m s = length (s .args .power-db .now)

@@ -3,8 +3,8 @@ use Prim.Native.Nat.{_+_, _-_, _*_}
 use native.Mathlib.Omega.{arith}
 use native.Mathlib.Nat.{mod-lt}
 use borrow.Author.Needs.{needs}
-use Rattle.channel_readings.proofs.power_below.Statement.{statement}
-use Rattle.channel_readings.proofs.power_below.Tie as tie
+use Rattle.reference.proofs.power_below.Statement.{statement}
+use Rattle.reference.proofs.power_below.Tie as tie
 
 mul-power-at : tie.Need-mul-power-at
 mul-power-at c = search needs
