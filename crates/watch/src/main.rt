@@ -1,5 +1,4 @@
 // watch: which channels of a recording are alive. `watch --help` says how it is used.
-mod help;
 mod stores_of;
 
 use libc::STDERR_FILENO;
@@ -45,11 +44,11 @@ fn main() {
     let mut lengths = watch_words::default_lengths();
     let s = read_words(&mut lengths);
     if s.is_help {
-        help::print_help();
+        watch_help::print_help();
         return;
     }
     if s.fault != watch_words::NOTHING {
-        help::print_fault(s);
+        watch_help::print_fault(s);
         return;
     }
     if s.file == 0 {

@@ -1,7 +1,7 @@
 // The stores that a recording needs, on the stack, and their parts.
-use watch_levels::signed;
 use watch_notices::faults;
 use watch_notices::head;
+use watch_stores::make;
 use watch_words::Settings;
 
 // A bank of 512 channels.
@@ -127,31 +127,6 @@ fn watch_parts(
         gate,
         &mut gate_f[..gate_f_len],
     );
-}
-
-// Fresh stores: 0, or the number of the refusal.
-fn make(
-    s: Settings,
-    lengths: &[u16],
-    n: u16,
-    bank: &mut [u16],
-    bank_f: &mut [f64],
-    gate: &mut [u16],
-    gate_f: &mut [f64],
-) -> u16 {
-    let no = bank_making::bank_new(bank, bank_f, wide(n));
-    if no != 0 {
-        return no;
-    }
-    gate_making::gate_new(
-        gate,
-        gate_f,
-        wide(n),
-        signed(s.on),
-        signed(s.off),
-        signed(s.early),
-        lengths,
-    )
 }
 
 // Makes the stores, and watches the hops.

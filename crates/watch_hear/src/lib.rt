@@ -1,10 +1,8 @@
-// One hop: its values, and what the bank and the gate answer to them.
-use watch_core::recording;
-use watch_core::recording::MOST;
-use watch_core::recording::MOST_HOP_BYTES;
-use watch_core::recording::Step;
-use watch_figures::least;
-use watch_judge::judge;
+// What the bank and the gate answer to a hop.
+ghost use mathlib.Core.Path.{_≡_};
+ghost use Rattle.watch_hear.specs.Judged.{gateJudged, judged};
+ghost use Rattle.watch_hear.specs.Heard.{answerOf, heardOf};
+use watch_recording::Step;
 
 // What became of a hop.
 pub enum Heard {
@@ -20,41 +18,71 @@ pub enum Heard {
     Taken,
 }
 
-// What could be read of a hop, with its values.
-fn read_values(fd: i32, n: u16, hop: &mut [u8], db: &mut [f64], power: &mut [f32]) -> Step {
-    let size = hop.len();
-    let got = io::read_full(fd, hop);
-    recording::fill_db(hop, db);
-    recording::fill_power(hop, n, power);
-    recording::step_of(&hop[..got], size)
+// With static heard the gate holds.
+fn judge_gate(
+    is_static: bool,
+    bank: &[u16],
+    bank_f: &[f64],
+    gate: &mut [u16],
+    gate_f: &mut [f64],
+    db: &[f64],
+    power: &[f32],
+    rise: &mut [u8],
+    drop: &mut [u8],
+) -> u16
+    ensures { λ r. ⌜ (r, now (gate .exit), now («gate_f» .exit), now (rise .exit), now (drop .exit)) ≡ gateJudged «is_static» (now (bank .entry)) (now («bank_f» .entry)) (now (gate .entry)) (now («gate_f» .entry)) (record { db = now (db .entry); power = now (power .entry) }) (now (rise .entry)) (now (drop .entry)) ⌝ }
+{
+    if is_static {
+        return gate::gate_hold(bank, bank_f, gate, gate_f, rise, drop);
+    }
+    gate::gate_update(bank, bank_f, gate, gate_f, db, power, rise, drop)
 }
 
-fn read_hop(fd: i32, n: u16, db: &mut [f64], power: &mut [f32]) -> Step {
-    let mut hop = [0u8; MOST_HOP_BYTES];
-    let size = least(recording::hop_bytes(n), MOST_HOP_BYTES);
-    read_values(fd, n, &mut hop[..size], db, power)
+// The bank and the gate take a hop: 0, or the number of the refusal.
+fn judge(
+    is_static: bool,
+    bank: &mut [u16],
+    bank_f: &mut [f64],
+    gate: &mut [u16],
+    gate_f: &mut [f64],
+    db: &[f64],
+    power: &[f32],
+    rise: &mut [u8],
+    drop: &mut [u8],
+) -> u16
+    ensures { λ r. ⌜ (r, now (bank .exit), now («bank_f» .exit), now (gate .exit), now («gate_f» .exit), now (rise .exit), now (drop .exit)) ≡ judged «is_static» (now (bank .entry)) (now («bank_f» .entry)) (now (gate .entry)) (now («gate_f» .entry)) (record { db = now (db .entry); power = now (power .entry) }) (now (rise .entry)) (now (drop .entry)) ⌝ }
+{
+    let no = bank::bank_update_holding_reference(bank, bank_f, db, power, is_static);
+    if no != 0 {
+        return no;
+    }
+    judge_gate(is_static, bank, bank_f, gate, gate_f, db, power, rise, drop)
 }
 
-fn answer(no: u16) -> Heard {
+fn answer(no: u16) -> Heard
+    ensures { λ r. ⌜ r ≡ answerOf no ⌝ }
+{
     if no != 0 {
         return Heard::Refused(no);
     }
     Heard::Taken
 }
 
-fn hear_with(
-    fd: i32,
-    n: u16,
+// What was read where a hop is due: a whole hop goes to the bank and the gate.
+pub fn hear(
+    step: Step,
     bank: &mut [u16],
     bank_f: &mut [f64],
     gate: &mut [u16],
     gate_f: &mut [f64],
-    db: &mut [f64],
-    power: &mut [f32],
+    db: &[f64],
+    power: &[f32],
     rise: &mut [u8],
     drop: &mut [u8],
-) -> Heard {
-    match read_hop(fd, n, db, power) {
+) -> Heard
+    ensures { λ r. ⌜ (r, now (bank .exit), now («bank_f» .exit), now (gate .exit), now («gate_f» .exit), now (rise .exit), now (drop .exit)) ≡ heardOf step (now (bank .entry)) (now («bank_f» .entry)) (now (gate .entry)) (now («gate_f» .entry)) (record { db = now (db .entry); power = now (power .entry) }) (now (rise .entry)) (now (drop .entry)) ⌝ }
+{
+    match step {
         Step::End => Heard::End,
         Step::Cut(got) => Heard::Cut(got),
         Step::BadFlag(flag) => Heard::BadFlag(flag),
@@ -70,32 +98,4 @@ fn hear_with(
             drop,
         )),
     }
-}
-
-// The next hop: its dB values and the gate's marks go to the lists.
-pub fn hear(
-    fd: i32,
-    n: u16,
-    bank: &mut [u16],
-    bank_f: &mut [f64],
-    gate: &mut [u16],
-    gate_f: &mut [f64],
-    db: &mut [f64],
-    rise: &mut [u8],
-    drop: &mut [u8],
-) -> Heard {
-    let mut power = [0.0f32; MOST];
-    let k = least(db.len(), MOST);
-    hear_with(
-        fd,
-        n,
-        bank,
-        bank_f,
-        gate,
-        gate_f,
-        db,
-        &mut power[..k],
-        rise,
-        drop,
-    )
 }

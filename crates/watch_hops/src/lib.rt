@@ -1,12 +1,13 @@
-// The hops one after another: heard, reported and counted.
-use watch_core::recording;
-use watch_core::recording::MOST;
-use watch_core::recording::Place;
-use watch_core::states;
+// The hops one after another: read, heard, told and counted.
+ghost use mathlib.Core.Path.{_≡_};
+ghost use Rattle.watch_hops.specs.Followed.{isTaken, stopped, afterHop, followed};
 use watch_figures::least;
 use watch_hear::Heard;
 use watch_hear::hear;
 use watch_notices::faults;
+use watch_read::read_hop;
+use watch_recording::MOST;
+use watch_recording::Place;
 use watch_report::lines;
 use watch_report::tail;
 use watch_words::Settings;
@@ -26,6 +27,10 @@ pub fn watch_hops(
     gate: &mut [u16],
     gate_f: &mut [f64],
 ) {
+    let mut db = [0.0f64; MOST];
+    let mut power = [0.0f32; MOST];
+    let mut rise = [0u8; MOST];
+    let mut drop = [0u8; MOST];
     let mut alive = [0u8; MOST];
     let mut events = [0u8; MOST];
     let mut alive_hops = [0u64; MOST];
@@ -40,9 +45,13 @@ pub fn watch_hops(
         bank_f,
         gate,
         gate_f,
+        &mut db[..k],
+        &mut power[..k],
+        &mut rise[..k],
+        &mut drop[..k],
         &mut alive[..k],
-        &mut events[..k],
         &mut alive_hops[..k],
+        &mut events[..k],
         &mut rises[..k],
     );
 }
@@ -57,27 +66,37 @@ fn watch_all(
     bank_f: &mut [f64],
     gate: &mut [u16],
     gate_f: &mut [f64],
+    db: &mut [f64],
+    power: &mut [f32],
+    rise: &mut [u8],
+    drop: &mut [u8],
     alive: &mut [u8],
-    events: &mut [u8],
     alive_hops: &mut [u64],
+    events: &mut [u8],
     rises: &mut [u64],
 ) {
-    let mut place = recording::first_place();
+    let mut place = watch_recording::first_place();
     let mut turns = u64::MAX;
     while turns > 0 && place.is_on {
-        place = turn(
+        let step = read_hop(fd, n, db, power);
+        let heard = hear(step, bank, bank_f, gate, gate_f, db, power, rise, drop);
+        place = follow(
             fd,
             name,
             s,
             n,
             place,
+            heard,
             bank,
             bank_f,
             gate,
             gate_f,
+            db,
+            rise,
+            drop,
             alive,
-            events,
             alive_hops,
+            events,
             rises,
         );
         turns -= 1;
@@ -85,65 +104,28 @@ fn watch_all(
     tail::print_tail(s, place.hop, bank, bank_f, alive, alive_hops, rises);
 }
 
-// Lends the lists of one hop.
-fn turn(
+// What became of a hop: told, and if it was taken counted.
+fn follow(
     fd: i32,
     name: &[u8],
     s: Settings,
     n: u16,
     place: Place,
-    bank: &mut [u16],
-    bank_f: &mut [f64],
-    gate: &mut [u16],
-    gate_f: &mut [f64],
+    heard: Heard,
+    bank: &[u16],
+    bank_f: &[f64],
+    gate: &[u16],
+    gate_f: &[f64],
+    db: &[f64],
+    rise: &[u8],
+    drop: &[u8],
     alive: &mut [u8],
-    events: &mut [u8],
     alive_hops: &mut [u64],
-    rises: &mut [u64],
-) -> Place {
-    let mut db = [0.0f64; MOST];
-    let mut rise = [0u8; MOST];
-    let mut drop = [0u8; MOST];
-    let k = least(alive.len(), MOST);
-    next_hop(
-        fd,
-        name,
-        s,
-        n,
-        place,
-        bank,
-        bank_f,
-        gate,
-        gate_f,
-        &mut db[..k],
-        &mut rise[..k],
-        &mut drop[..k],
-        alive,
-        events,
-        alive_hops,
-        rises,
-    )
-}
-
-fn next_hop(
-    fd: i32,
-    name: &[u8],
-    s: Settings,
-    n: u16,
-    place: Place,
-    bank: &mut [u16],
-    bank_f: &mut [f64],
-    gate: &mut [u16],
-    gate_f: &mut [f64],
-    db: &mut [f64],
-    rise: &mut [u8],
-    drop: &mut [u8],
-    alive: &mut [u8],
     events: &mut [u8],
-    alive_hops: &mut [u64],
     rises: &mut [u64],
-) -> Place {
-    let heard = hear(fd, n, bank, bank_f, gate, gate_f, db, rise, drop);
+) -> Place
+    ensures { λ r. ⌜ (r, now (alive .exit), now («alive_hops» .exit), now (events .exit), now (rises .exit)) ≡ followed heard place n (now (alive .entry)) (now («alive_hops» .entry)) (now (events .entry)) (now (rises .entry)) (now (rise .entry)) (now (drop .entry)) ⌝ }
+{
     if !is_taken(heard) {
         return print_stop(fd, name, place, heard);
     }
@@ -159,27 +141,35 @@ fn next_hop(
         rise,
         drop,
         alive,
-        events,
         alive_hops,
+        events,
         rises,
     )
 }
 
-fn is_taken(heard: Heard) -> bool {
+fn is_taken(heard: Heard) -> bool
+    ensures { λ r. ⌜ r ≡ isTaken heard ⌝ }
+{
     match heard {
+        Heard::End => false,
+        Heard::Cut(_) => false,
+        Heard::BadFlag(_) => false,
+        Heard::Refused(_) => false,
         Heard::Taken => true,
-        _ => false,
     }
 }
 
 // Why no more hops are taken.
-fn print_stop(fd: i32, name: &[u8], place: Place, heard: Heard) -> Place {
+fn print_stop(fd: i32, name: &[u8], place: Place, heard: Heard) -> Place
+    ensures { λ r. ⌜ r ≡ stopped place ⌝ }
+{
     match heard {
         Heard::Cut(got) => faults::print_cut(fd, name, place, got),
         Heard::BadFlag(flag) => faults::print_bad_flag(name, place, flag),
         Heard::Refused(no) => faults::print_refused(name, place, no),
-        _ => recording::ended(place),
+        _ => {}
     }
+    watch_recording::ended(place)
 }
 
 // What the marks of a hop change, told and then taken over.
@@ -195,12 +185,14 @@ fn take_hop(
     rise: &[u8],
     drop: &[u8],
     alive: &mut [u8],
-    events: &mut [u8],
     alive_hops: &mut [u64],
+    events: &mut [u8],
     rises: &mut [u64],
-) -> Place {
-    states::count_rises(rises, alive, rise, drop);
-    states::add_events(events, alive, rise, drop);
+) -> Place
+    ensures { λ r. ⌜ (r, now (alive .exit), now («alive_hops» .exit), now (events .exit), now (rises .exit)) ≡ afterHop place n (now (alive .entry)) (now («alive_hops» .entry)) (now (events .entry)) (now (rises .entry)) (now (rise .entry)) (now (drop .entry)) ⌝ }
+{
+    watch_states::count_rises(rises, alive, rise, drop);
+    watch_states::add_events(events, alive, rise, drop);
     lines::print_hop(
         place.hop,
         s,
@@ -214,13 +206,13 @@ fn take_hop(
         rise,
         drop,
     );
-    states::close_hop(
-        recording::is_slow(place.hop),
+    watch_states::close_hop(
+        watch_recording::is_slow(place.hop),
         alive,
         alive_hops,
         events,
         rise,
         drop,
     );
-    recording::next_place(place, recording::hop_bytes(n))
+    watch_recording::next_place(place, watch_recording::hop_bytes(n))
 }

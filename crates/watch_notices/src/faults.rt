@@ -1,10 +1,10 @@
 // What is wrong with a recording, on standard error, with the hop and the byte.
 use crate::out::cry;
 use libc::STDERR_FILENO;
-use watch_core::recording;
-use watch_core::recording::Place;
 use watch_figures::end_byte;
 use watch_figures::wide;
+use watch_names::put_refusal;
+use watch_recording::Place;
 use watch_text::LINE;
 use watch_text::put_number;
 use watch_text::put_text;
@@ -58,24 +58,6 @@ pub fn print_too_large(name: &[u8], n: u16, needed: usize, most: usize) {
     cry(&line, at);
 }
 
-// The trade's words of document 01.
-fn put_refusal(line: &mut [u8; LINE], at: usize, no: u16) -> usize {
-    match no {
-        1 => put_text(line, at, b"band: no such number of channels"),
-        2 => put_text(line, at, b"store size"),
-        3 => put_text(line, at, b"lengths: one to eight of 1 to 375 hops"),
-        4 => put_text(line, at, b"level: -100 to 100 dB"),
-        5 => put_text(line, at, b"hop size"),
-        6 => put_text(
-            line,
-            at,
-            b"garbled: a dB value is not a number on a slow hop",
-        ),
-        8 => put_text(line, at, b"mismatch"),
-        _ => put_text(line, at, b"unsound"),
-    }
-}
-
 pub fn print_refusal(name: &[u8], hop: u64, byte: u64, no: u16) {
     let mut line = [0u8; LINE];
     cry_place(name, hop, byte);
@@ -87,24 +69,21 @@ pub fn print_refusal(name: &[u8], hop: u64, byte: u64, no: u16) {
     cry(&line, at);
 }
 
-pub fn print_refused(name: &[u8], place: Place, no: u16) -> Place {
+pub fn print_refused(name: &[u8], place: Place, no: u16) {
     print_refusal(name, place.hop, place.byte, no);
-    recording::ended(place)
 }
 
 // The recording ends within a hop.
-pub fn print_cut(fd: i32, name: &[u8], place: Place, got: usize) -> Place {
+pub fn print_cut(fd: i32, name: &[u8], place: Place, got: usize) {
     cry_place(name, place.hop, end_byte(place.byte, got));
     cry_short(fd, b"the recording is cut within this hop\n");
-    recording::ended(place)
 }
 
-pub fn print_bad_flag(name: &[u8], place: Place, flag: u8) -> Place {
+pub fn print_bad_flag(name: &[u8], place: Place, flag: u8) {
     let mut line = [0u8; LINE];
     cry_place(name, place.hop, place.byte);
     let at = put_text(&mut line, 0, b"the flag byte is ");
     let at = put_number(&mut line, at, flag as u64, 0);
     let at = put_text(&mut line, at, b"; only 0 and 1 mean something\n");
     cry(&line, at);
-    recording::ended(place)
 }

@@ -1,7 +1,5 @@
 // What a hop gives to print: a line for each change, or on a slow hop one for each channel.
 use crate::out::put_reference;
-use watch_core::recording;
-use watch_core::states;
 use watch_figures::bit;
 use watch_figures::ends_minute;
 use watch_figures::float_at;
@@ -10,6 +8,8 @@ use watch_figures::value;
 use watch_figures::whole_seconds;
 use watch_floats::put_db;
 use watch_floats::put_power;
+use watch_names::put_change;
+use watch_names::put_event;
 use watch_notices::out::cry;
 use watch_notices::out::say;
 use watch_text::LINE;
@@ -48,7 +48,7 @@ pub fn print_hop(
         print_changes(hop, s, bank, bank_f, gate, gate_f, alive, rise, drop);
         return;
     }
-    if recording::is_slow(hop) {
+    if watch_recording::is_slow(hop) {
         print_rows(
             hop,
             s,
@@ -77,19 +77,11 @@ fn print_changes(
     drop: &[u8],
 ) {
     for k in 0..alive.len() {
-        match states::change_at(alive, rise, drop, k) {
+        match watch_states::change_at(alive, rise, drop, k) {
             0 => {}
             1 => print_change(hop, s, bank, bank_f, gate, gate_f, k, true),
             _ => print_change(hop, s, bank, bank_f, gate, gate_f, k, false),
         }
-    }
-}
-
-fn put_change(line: &mut [u8; LINE], at: usize, is_alive: bool) -> usize {
-    if is_alive {
-        put_text(line, at, b"  rise  ")
-    } else {
-        put_text(line, at, b"  drop  ")
     }
 }
 
@@ -145,18 +137,9 @@ fn print_rows(
             gate,
             gate_f,
             k,
-            states::next_state(alive, rise, drop, k),
-            states::mark_at(events, k),
+            watch_states::next_state(alive, rise, drop, k),
+            watch_states::mark_at(events, k),
         );
-    }
-}
-
-fn put_event(line: &mut [u8; LINE], at: usize, event: u8) -> usize {
-    match event {
-        0 => at,
-        1 => put_text(line, at, b"rise"),
-        2 => put_text(line, at, b"drop"),
-        _ => put_text(line, at, b"rise+drop"),
     }
 }
 

@@ -1,9 +1,9 @@
 // The channels at the end of a report.
 use crate::out::put_reference;
 use libc::STDOUT_FILENO;
-use watch_core::states;
 use watch_figures::floors_of;
 use watch_floats::put_db;
+use watch_names::put_state;
 use watch_notices::out::say;
 use watch_text::LINE;
 use watch_text::put_number;
@@ -31,9 +31,9 @@ pub fn print_tail(
             bank,
             bank_f,
             k,
-            states::is_set(alive, k),
-            states::count_at(alive_hops, k),
-            states::count_at(rises, k),
+            watch_states::is_set(alive, k),
+            watch_states::count_at(alive_hops, k),
+            watch_states::count_at(rises, k),
         );
     }
 }
@@ -50,14 +50,6 @@ fn print_total(hops: u64) {
         STDOUT_FILENO,
         b"channel        raw  effective  rise floor   alive s  rises  now\n",
     );
-}
-
-fn put_state(line: &mut [u8; LINE], at: usize, is_alive: bool) -> usize {
-    if is_alive {
-        put_text(line, at, b"  alive")
-    } else {
-        put_text(line, at, b"  idle")
-    }
 }
 
 fn print_channel(

@@ -1,21 +1,35 @@
-use mathlib.Core.Path.{sym}
-use native.Mathlib.Omega.{arith}
-use lib.Seq.{length-take-le}
+-- `watch_hear::hear` meets its contract: what is no whole hop changes nothing. Assumes nothing.
 use borrow.Author.Needs.{needs}
+use Rattle.watch_hear.proofs.Steps.{ended, cut, bad, heard}
 use Rattle.watch_hear.proofs.hear.Statement.{statement}
 use Rattle.watch_hear.proofs.hear.Tie as tie
 
-least-requires : tie.Need-least-requires
-least-requires c κs = search needs
+enum-told : tie.Need-enum-told
+enum-told c = search needs
 
-array-borrow-prefix-power : tie.Need-array-borrow-prefix-power
-array-borrow-prefix-power c = search needs
+enum-known-step : tie.Need-enum-known-step
+enum-known-step c = search needs
 
-slice-aggregate-hear-with : tie.Need-slice-aggregate-hear-with
-slice-aggregate-hear-with c = sym (length-take-le _ _ (omega arith))
+enum-known-step-2 : tie.Need-enum-known-step-2
+enum-known-step-2 c = search needs
 
-hear-with-requires : tie.Need-hear-with-requires
-hear-with-requires c κs = search needs
+enum-known-step-3 : tie.Need-enum-known-step-3
+enum-known-step-3 c = search needs
+
+judge-requires : tie.Need-judge-requires
+judge-requires c κs = search needs
+
+answer-requires : tie.Need-answer-requires
+answer-requires c κs = search needs
+
+returns : tie.Need-returns
+returns c = ended _ _ _ _ _ _ _ _ (c .enum-told .given .1)
+
+returns-2 : tie.Need-returns-2
+returns-2 c = cut _ _ _ _ _ _ _ _ _ (c .before .step .given .1)
+
+returns-3 : tie.Need-returns-3
+returns-3 c = bad _ _ _ _ _ _ _ _ _ (c .before .step2 .given .1)
 
 same-length : tie.Need-same-length
 same-length c = search needs
@@ -35,25 +49,27 @@ same-length-5 c = search needs
 same-length-6 : tie.Need-same-length-6
 same-length-6 c = search needs
 
-same-length-7 : tie.Need-same-length-7
-same-length-7 c = search needs
-
-returns : tie.Need-returns
-returns c = search needs
+returns-4 : tie.Need-returns-4
+returns-4 c =
+    heard _ _ _ _ _ _ _ _ _ _ _ (c .before .before .before .before .before .before .before .before .before .before .before .before .before .before .before .before .before .before .before .before .before .step3 .given .1) (c .before .before .before .before .before .before .before .before .before .before .before .before .before .judge .ensures) (c .answer .ensures)
 
 pub hear-spec : {M : Type 1} → statement M
 hear-spec =
     tie.close
     (tie.spec
-    least-requires
-    array-borrow-prefix-power
-    slice-aggregate-hear-with
-    hear-with-requires
+    enum-told
+    enum-known-step
+    enum-known-step-2
+    enum-known-step-3
+    judge-requires
+    answer-requires
+    returns
+    returns-2
+    returns-3
     same-length
     same-length-2
     same-length-3
     same-length-4
     same-length-5
     same-length-6
-    same-length-7
-    returns)
+    returns-4)

@@ -1,0 +1,38 @@
+-- The words of a report.
+use mathlib.Core.Bool.{Bool, true, false, cond}
+use mathlib.Core.List.{List, [], _∷_}
+use Prim.Native.Nat.{ℕ}
+use lib.Dec.{eqb}
+use Rattle.laws.specs.Texts.{ascii}
+
+-- what became of a channel; true: it came alive
+abbrev pub changeName : Bool → List ℕ
+changeName true = ascii "  rise  "
+changeName false = ascii "  drop  "
+
+abbrev pub stateName : Bool → List ℕ
+stateName true = ascii "  alive"
+stateName false = ascii "  idle"
+
+-- the text beside a number in a table, or another one
+abbrev pub nameIn : List (ℕ × List ℕ) → List ℕ → ℕ → List ℕ
+nameIn [] other n = other
+nameIn (e ∷ es) other n = cond (eqb n (e .0)) (e .1) (nameIn es other n)
+
+-- the changes that were noted of a channel, by bits: 1 a rise, 2 a drop
+abbrev pub eventName : ℕ → List ℕ
+eventName = nameIn ((0, []) ∷ (1, ascii "rise") ∷ (2, ascii "drop") ∷ []) (ascii "rise+drop")
+
+-- document 01's numbers and words of the refusals
+abbrev pub refusalName : ℕ → List ℕ
+refusalName =
+    nameIn
+    ((1, ascii "band: no such number of channels")
+    ∷ (2, ascii "store size")
+    ∷ (3, ascii "lengths: one to eight of 1 to 375 hops")
+    ∷ (4, ascii "level: -100 to 100 dB")
+    ∷ (5, ascii "hop size")
+    ∷ (6, ascii "garbled: a dB value is not a number on a slow hop")
+    ∷ (8, ascii "mismatch")
+    ∷ [])
+    (ascii "unsound")
