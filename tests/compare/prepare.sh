@@ -11,7 +11,8 @@ lib=${LIB:-$root/target/staticlib}
 archive=$lib/libwolfcloak.a
 if [ -z "${LIB:-}" ]; then
     if [ ! -f "$archive" ] || [ -n "$(find "$root/crates" -name '*.rt' -newer "$archive")" ]; then
-        (cd "$root" && rt staticlib wolfcloak)
+        # `rt check` first: it proves two crates at a time, `rt staticlib` one
+        (cd "$root" && rt check wolfcloak && rt staticlib wolfcloak)
     fi
 fi
 mkdir -p build

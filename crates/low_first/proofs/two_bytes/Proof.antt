@@ -1,46 +1,39 @@
+use mathlib.Core.Path.{ap, _∙_}
+use Prim.Native.Nat.{_+_, _*_}
 use native.Mathlib.Nat.{add-zero}
-use Rattle.low_first.specs.LowFirst.{lowTwo}
+use Rattle.low_first.specs.LowFirst.{byteAt, lowTwo}
 use native.Mathlib.Omega.{arith}
 use borrow.Author.Needs.{needs}
 use Rattle.low_first.proofs.two_bytes.Statement.{statement}
 use Rattle.low_first.proofs.two_bytes.Tie as tie
-use Rattle.low_first.proofs.two_bytes.Reads as reads
-use Rattle.low_first.proofs.two_bytes.Lts as lts
-use Rattle.low_first.proofs.byte_at.Reads as byte-at-reads
-use Rattle.low_first.proofs.wide.Reads as wide-reads
 
--- src/lib.rt:36:11
 byte-at-requires : tie.Need-byte-at-requires
 byte-at-requires c κs = search needs
 
--- src/lib.rt:36:6
 wide-requires : tie.Need-wide-requires
 wide-requires c κs = search needs
 
--- src/lib.rt:36:46
 byte-at-requires-2 : tie.Need-byte-at-requires-2
 byte-at-requires-2 c κs = search needs
 
--- src/lib.rt:36:41
 wide-requires-2 : tie.Need-wide-requires-2
 wide-requires-2 c κs = search needs
 
--- src/lib.rt:36:35
 mul-result : tie.Need-mul-result
 mul-result c = search needs
 
--- src/lib.rt:36:6
 add-result : tie.Need-add-result
 add-result c = search needs
 
--- src/lib.rt:36:5
 cast-result : tie.Need-cast-result
 cast-result c = search needs
 
--- src/lib.rt:33:1
 returns : tie.Need-returns
 unfolding lowTwo
-returns c = cc (add-zero (c .before .before .before .before .before .args .at))
+returns c =
+    let low = c .before .before .wide .ensures .0 ∙ c .before .before .before .byte-at .ensures ∙ ap (byteAt (c .before .before .before .before .before .args .list .now)) (add-zero (c .before .before .before .before .before .args .at)) in
+    let high = c .wide2 .ensures .0 ∙ c .before .byte-at2 .ensures in
+    λ i. low i + 256 * high i
 
 pub two-bytes-spec : {M : Type 1} → statement M
 two-bytes-spec =
