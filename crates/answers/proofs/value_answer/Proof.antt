@@ -1,10 +1,10 @@
--- `wolfcloak::take_apart` meets its contract. Assumes nothing.
+-- `answers::value_answer` meets its contract. Assumes nothing.
 use mathlib.Core.Path.{sym, ap}
 use denote.Ref.{now}
-use Rattle.wolfcloak.specs.Answers.{answered}
+use Rattle.answers.specs.Answers.{answered}
 use borrow.Author.Needs.{needs}
-use Rattle.wolfcloak.proofs.take_apart.Statement.{statement}
-use Rattle.wolfcloak.proofs.take_apart.Tie as tie
+use Rattle.answers.proofs.value_answer.Statement.{statement}
+use Rattle.answers.proofs.value_answer.Tie as tie
 
 enum-known-reading : tie.Need-enum-known-reading
 enum-known-reading c = search needs
@@ -20,5 +20,5 @@ returns-2 : tie.Need-returns-2
 returns-2 c = let t = c .before in
     ap (answered (now (t .before .before .args .value))) (sym (t .reading2 .given .1))
 
-pub take-apart-spec : {M : Type 1} → statement M
-take-apart-spec = tie.close (tie.spec enum-known-reading returns enum-known-reading-2 returns-2)
+pub value-answer-spec : {M : Type 1} → statement M
+value-answer-spec = tie.close (tie.spec enum-known-reading returns enum-known-reading-2 returns-2)
