@@ -1,11 +1,11 @@
--- `windows::Cursor::advance` meets its contract. Assumes nothing.
+-- `cursors::Cursor::advance` meets its contract. Assumes nothing.
 use mathlib.Core.Path.{_≡_}
 use Prim.Native.Nat.{_+_, _*_}
 use native.Mathlib.Omega.{arith}
 use Rattle.model.specs.Windows.{turned, grown}
 use borrow.Author.Needs.{needs}
-use Rattle.windows.proofs.Cursor.advance.Statement.{statement}
-use Rattle.windows.proofs.Cursor.advance.Tie as tie
+use Rattle.cursors.proofs.Cursor.advance.Statement.{statement}
+use Rattle.cursors.proofs.Cursor.advance.Tie as tie
 
 mul-width : tie.Need-mul-width
 mul-width c = search needs

@@ -1,10 +1,10 @@
--- `windows::Cursor::middle` meets its contract. Assumes nothing.
+-- `cursors::Cursor::middle` meets its contract. Assumes nothing.
 use mathlib.Core.Path.{refl}
 use native.Mathlib.Nat.{mod-lt}
 use native.Mathlib.Omega.{arith}
 use borrow.Author.Needs.{needs}
-use Rattle.windows.proofs.Cursor.middle.Statement.{statement}
-use Rattle.windows.proofs.Cursor.middle.Tie as tie
+use Rattle.cursors.proofs.Cursor.middle.Statement.{statement}
+use Rattle.cursors.proofs.Cursor.middle.Tie as tie
 
 add-place : tie.Need-add-place
 add-place c = search needs
