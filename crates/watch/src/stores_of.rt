@@ -22,7 +22,7 @@ pub fn watch_open(fd: i32, name: &[u8], s: Settings, lengths: &[u16; 8]) {
         return;
     }
     let n = low_first::two_bytes(&two, 0);
-    if !stores::in_band(wide(n)) {
+    if !store_sizes::in_band(wide(n)) {
         faults::print_bad_band(name, n);
         return;
     }
@@ -105,8 +105,8 @@ fn watch_parts(
     gate: &mut [u16],
     gate_f: &mut [f64],
 ) {
-    let bank_len = stores::bank_len(wide(n));
-    let bank_f_len = stores::bank_f_len(wide(n));
+    let bank_len = store_sizes::bank_len(wide(n));
+    let bank_f_len = store_sizes::bank_f_len(wide(n));
     if bank_len > bank.len() {
         return;
     }

@@ -12,14 +12,14 @@ ghost use Rattle.answers.specs.Answers.{answered, floorsAnswered, ringAnswered}
 pub extern "C" fn wolfcloak_bank_len(n: usize) -> usize
     ensures { λ r. ⌜ r ≡ bankLenFor n ⌝ }
 {
-    stores::bank_len(n)
+    store_sizes::bank_len(n)
 }
 
 #[no_mangle]
 pub extern "C" fn wolfcloak_bank_f_len(n: usize) -> usize
     ensures { λ r. ⌜ r ≡ bankFLenFor n ⌝ }
 {
-    stores::bank_f_len(n)
+    store_sizes::bank_f_len(n)
 }
 
 #[no_mangle]

@@ -1,8 +1,8 @@
 use native.Mathlib.Omega.{arith}
 use borrow.Author.Tests.{eq-eqb, ne-eqb}
 use borrow.Author.Needs.{needs}
-use Rattle.stores.proofs.sharing.Statement.{statement}
-use Rattle.stores.proofs.sharing.Tie as tie
+use Rattle.hop_refusals.proofs.sharing.Statement.{statement}
+use Rattle.hop_refusals.proofs.sharing.Tie as tie
 
 sub-result : tie.Need-sub-result
 sub-result c = search needs

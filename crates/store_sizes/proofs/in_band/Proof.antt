@@ -1,6 +1,6 @@
 use borrow.Author.Tests.{le-leb, lt-leb}
-use Rattle.stores.proofs.in_band.Statement.{statement}
-use Rattle.stores.proofs.in_band.Tie as tie
+use Rattle.store_sizes.proofs.in_band.Statement.{statement}
+use Rattle.store_sizes.proofs.in_band.Tie as tie
 
 returns : tie.Need-returns
 returns c = simp (lt-leb _ _ (c .if1 .taken))

@@ -6,10 +6,10 @@ use lib.ListN.{length}
 use borrow.Author.Needs.{needs}
 use Rattle.laws.specs.Tests.{anyBelow}
 use Rattle.laws.proofs.Tests.{any-more, any-at, any-done}
-use Rattle.stores.specs.Checks.{sharingOf}
-use Rattle.stores.proofs.Hops.{nanAt, nan-read, garbled-is}
-use Rattle.stores.proofs.garbled.Statement.{statement}
-use Rattle.stores.proofs.garbled.Tie as tie
+use Rattle.hop_refusals.specs.Checks.{sharingOf}
+use Rattle.hop_refusals.proofs.Hops.{nanAt, nan-read, garbled-is}
+use Rattle.hop_refusals.proofs.garbled.Statement.{statement}
+use Rattle.hop_refusals.proofs.garbled.Tie as tie
 
 abbrev Inv-loop : tie.InvT-loop
 Inv-loop power-db end k₀ k = (k ≤ end) × (anyBelow k (nanAt power-db) ≡ false)

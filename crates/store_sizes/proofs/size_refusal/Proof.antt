@@ -3,9 +3,9 @@ use mathlib.Core.Bool.{true}
 use borrow.Author.Tests.{not-true, not-false}
 use borrow.Author.Needs.{needs}
 use Rattle.laws.specs.Tests.{within}
-use Rattle.stores.proofs.Sizes.{off-band, misfit, misfit-f, fits}
-use Rattle.stores.proofs.size_refusal.Statement.{statement}
-use Rattle.stores.proofs.size_refusal.Tie as tie
+use Rattle.store_sizes.proofs.Sizes.{off-band, misfit, misfit-f, fits}
+use Rattle.store_sizes.proofs.size_refusal.Statement.{statement}
+use Rattle.store_sizes.proofs.size_refusal.Tie as tie
 
 abbrev start : tie.Else1 → tie.Start
 start c = c .before .before

@@ -13,7 +13,7 @@ use Rattle.laws.proofs.Tests.{by-test, and-false-r}
 use Rattle.laws.proofs.Floats.{ne-self}
 use Rattle.model.specs.Numbers.{f0}
 use Rattle.model.specs.Refusals.{blockSize, garbled}
-use Rattle.stores.specs.Checks.{sharingOf, hopRefusal}
+use Rattle.hop_refusals.specs.Checks.{sharingOf, hopRefusal}
 
 -- two tests that agree below n
 any-same : (n : ℕ) (p q : ℕ → Bool) → ((i : ℕ) → i < n → p i ≡ q i) → anyBelow n p ≡ anyBelow n q

@@ -4,9 +4,9 @@ use Prim.Native.Nat.{ℕ, _+_, _*_}
 use borrow.Author.Tests.{not-true, not-false}
 use borrow.Author.Needs.{needs}
 use Rattle.laws.specs.Tests.{within}
-use Rattle.stores.proofs.Sizes.{high, len-none, len-for}
-use Rattle.stores.proofs.bank_len.Statement.{statement}
-use Rattle.stores.proofs.bank_len.Tie as tie
+use Rattle.store_sizes.proofs.Sizes.{high, len-none, len-for}
+use Rattle.store_sizes.proofs.bank_len.Statement.{statement}
+use Rattle.store_sizes.proofs.bank_len.Tie as tie
 
 band : (c : tie.Else1) → within 1 512 (c .before .before .args .n) ≡ true
 band c = sym (c .before .in-band .ensures) ∙ not-false _ (c .if1 .left)

@@ -4,10 +4,10 @@ use lib.ListN.{length}
 use borrow.Author.Needs.{needs}
 use Rattle.laws.specs.Tests.{first}
 use Rattle.model.specs.Refusals.{garbled}
-use Rattle.stores.specs.Checks.{hopRefusal}
-use Rattle.stores.proofs.Hops.{db-long, power-long, fast, slow}
-use Rattle.stores.proofs.hop_refusal.Statement.{statement}
-use Rattle.stores.proofs.hop_refusal.Tie as tie
+use Rattle.hop_refusals.specs.Checks.{hopRefusal}
+use Rattle.hop_refusals.proofs.Hops.{db-long, power-long, fast, slow}
+use Rattle.hop_refusals.proofs.hop_refusal.Statement.{statement}
+use Rattle.hop_refusals.proofs.hop_refusal.Tie as tie
 
 abbrev start : tie.Else3 → tie.Start
 start e = e .before .before .before .before .before
