@@ -15,7 +15,7 @@ use Rattle.model.specs.Stores.{chanU, bankU, bankF, bankLen, bankFLen}
 use Rattle.model.specs.Numbers.{f0, histMin, freshPower}
 use Rattle.model.specs.Refusals.{makeRefusal}
 use Rattle.model.specs.Calls.{leaves, bankNew}
-use Rattle.stores.specs.Checks.{sizeRefusal}
+use Rattle.store_sizes.specs.Checks.{sizeRefusal}
 
 -- ---- a loop that writes one value
 

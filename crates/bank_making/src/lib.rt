@@ -40,7 +40,7 @@ fn fresh_f(bank_f: &mut [f64], n: usize)
     requires { ⌜ (n ≤ 512) × (length (now «bank_f») ≡ bankFLen n) ⌝ }
     ensures { λ _. ⌜ now («bank_f» .exit) ≡ bankF (freshBank n) ⌝ }
 {
-    let b = stores::blocks(n);
+    let b = store_sizes::blocks(n);
     fill(bank_f, 0, 4 * n + b, -140.0);
     fill(bank_f, 2 * n, n, 1e-14);
     fill(bank_f, 4 * n + b, b, 0.0);
@@ -50,7 +50,7 @@ fn fresh_f(bank_f: &mut [f64], n: usize)
 pub fn bank_new(bank: &mut [u16], bank_f: &mut [f64], n: usize) -> u16
     ensures { λ r. ⌜ (r, now (bank .exit), now («bank_f» .exit)) ≡ bankNew (now (bank .entry)) (now («bank_f» .entry)) n ⌝ }
 {
-    let no = stores::size_refusal(1, bank.len(), bank_f.len(), n);
+    let no = store_sizes::size_refusal(1, bank.len(), bank_f.len(), n);
     if no != 0 {
         return no;
     }

@@ -13,8 +13,9 @@ use Rattle.laws.proofs.Lists.{width, length-part}
 use Rattle.laws.proofs.Tabs.{tab-snoc}
 use Rattle.model.specs.Windows.{PowerLooks, lookRises, anyRises}
 use Rattle.model.specs.GateStores.{lookSize, mAt, gateOf}
-use Rattle.windows.specs.declared.Cursor.{Cursor}
-use Rattle.windows.specs.Looks.{LookFits, CursorFits, looksIn}
+use Rattle.cursors.specs.declared.Cursor.{Cursor}
+use Rattle.cursors.specs.Cursors.{CursorFits}
+use Rattle.windows.specs.Looks.{LookFits, looksIn}
 use Rattle.model.specs.GoodGate.{GateReady}
 use Rattle.model.proofs.GateStores.{startAt, sizeAt, lookIn}
 use Rattle.model.proofs.GoodGates.{sizes, look-good, look-fits, looks-of}

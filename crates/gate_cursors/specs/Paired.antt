@@ -8,7 +8,7 @@ use Rattle.model.specs.Bank.{FloorBank}
 use Rattle.model.specs.Gate.{Gate, riseBytes, dropBytes}
 use Rattle.model.specs.GateStores.{mAt, cursorAt, filledAt}
 use Rattle.model.specs.GoodBank.{Ready}
-use Rattle.windows.specs.declared.Cursor.{Cursor}
+use Rattle.cursors.specs.declared.Cursor.{Cursor}
 use Rattle.model.specs.GoodGate.{GateReady}
 
 -- a sound bank and a sound gate of as many channels

@@ -5,12 +5,12 @@ ghost use lib.ListN.{length, set};
 ghost use Rattle.gate_cursors.specs.Paired.{cursorOf};
 
 // The cursor of length j.
-pub fn cursor(gate: &[u16], j: usize) -> windows::Cursor
+pub fn cursor(gate: &[u16], j: usize) -> cursors::Cursor
     requires { ⌜ 6 + 3 * j + 2 < length (now gate) ⌝ }
     ensures { λ r. ⌜ r ≡ cursorOf (now (gate .entry)) j ⌝ }
 {
     let at = 6 + 3 * j;
-    windows::Cursor {
+    cursors::Cursor {
         m: laws::wide(gate[at]),
         at: laws::wide(gate[at + 1]),
         filled: laws::wide(gate[at + 2]),
@@ -18,7 +18,7 @@ pub fn cursor(gate: &[u16], j: usize) -> windows::Cursor
 }
 
 // The cursor of length j put back; its m stays.
-pub fn put_cursor(gate: &mut [u16], j: usize, c: windows::Cursor)
+pub fn put_cursor(gate: &mut [u16], j: usize, c: cursors::Cursor)
     requires { ⌜ (6 + 3 * j + 2 < length (now gate)) × (c .at < 65536) × (c .filled < 65536) ⌝ }
     ensures { λ _. ⌜ now (gate .exit) ≡ set (set (now (gate .entry)) (6 + 3 * j + 1) (c .at)) (6 + 3 * j + 2) (c .filled) ⌝ }
 {

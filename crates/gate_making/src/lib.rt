@@ -54,7 +54,7 @@ fn make_refusal(
 ) -> u16
     ensures { λ r. ⌜ r ≡ gateMakeRefusal «u_len» «f_len» n on off early (now (lengths .entry)) ⌝ }
 {
-    if !stores::in_band(n) {
+    if !store_sizes::in_band(n) {
         return 1;
     }
     if !gate_lengths::lengths_good(lengths) {
@@ -141,7 +141,7 @@ pub fn gate_new(
 pub fn gate_f_len(n: usize, lengths: &[u16]) -> usize
     ensures { λ r. ⌜ r ≡ gateFLenFor n (now (lengths .entry)) ⌝ }
 {
-    if !stores::in_band(n) {
+    if !store_sizes::in_band(n) {
         return 0;
     }
     if !gate_lengths::lengths_good(lengths) {

@@ -10,7 +10,7 @@ use Rattle.laws.proofs.Lists.{width}
 use Rattle.model.specs.Windows.{PowerLooks, stepLook}
 use Rattle.model.specs.Gate.{sampleOf}
 use Rattle.model.specs.GateStores.{lookSize, lookF, gateU, gateF, gateOf}
-use Rattle.windows.specs.declared.Cursor.{Cursor}
+use Rattle.cursors.specs.declared.Cursor.{Cursor}
 use Rattle.windows.specs.Looks.{cursorIn, steppedLook}
 use Rattle.model.specs.GoodGate.{GoodLook, GateReady}
 use Rattle.model.proofs.GateStores.{startAt, sizeAt, lookIn}

@@ -1,4 +1,5 @@
 // The stores that a recording needs, on the stack, and their parts.
+use laws::wide;
 use watch_notices::faults;
 use watch_notices::head;
 use watch_stores::make;
@@ -22,15 +23,11 @@ pub fn watch_open(fd: i32, name: &[u8], s: Settings, lengths: &[u16; 8]) {
         return;
     }
     let n = low_first::two_bytes(&two, 0);
-    if !stores::in_band(wide(n)) {
+    if !store_sizes::in_band(wide(n)) {
         faults::print_bad_band(name, n);
         return;
     }
     watch_channels(fd, name, s, lengths, n);
-}
-
-fn wide(n: u16) -> usize {
-    n as usize
 }
 
 fn watch_channels(fd: i32, name: &[u8], s: Settings, lengths: &[u16], n: u16) {
@@ -105,8 +102,8 @@ fn watch_parts(
     gate: &mut [u16],
     gate_f: &mut [f64],
 ) {
-    let bank_len = stores::bank_len(wide(n));
-    let bank_f_len = stores::bank_f_len(wide(n));
+    let bank_len = store_sizes::bank_len(wide(n));
+    let bank_f_len = store_sizes::bank_f_len(wide(n));
     if bank_len > bank.len() {
         return;
     }

@@ -1,6 +1,7 @@
 // The hops one after another: read, heard, told and counted.
 ghost use mathlib.Core.Path.{_≡_};
 ghost use Rattle.watch_hops.specs.Followed.{isTaken, stopped, afterHop, followed};
+use laws::wide;
 use watch_figures::least;
 use watch_hear::Heard;
 use watch_hear::hear;
@@ -11,10 +12,6 @@ use watch_recording::Place;
 use watch_report::lines;
 use watch_report::tail;
 use watch_words::Settings;
-
-fn wide(n: u16) -> usize {
-    n as usize
-}
 
 // Lends each list at the recording's own size.
 pub fn watch_hops(

@@ -4,7 +4,7 @@ ghost use Prim.Native.Nat.{_<_, _≤_};
 ghost use lib.ListN.{length};
 ghost use Rattle.model.specs.Windows.{stronger, besideStronger, lookRises};
 ghost use Rattle.windows.specs.Looks.{LookFits, looksIn};
-use windows::Cursor;
+use cursors::Cursor;
 
 // Channel j is another than k, and its recent sum is strictly larger.
 fn stronger(recent: &[f64], k: usize, j: usize) -> bool

@@ -8,8 +8,9 @@ use Rattle.laws.proofs.Tabs.{length-tab, getD-tab}
 use Rattle.model.specs.Windows.{PowerLooks, ringOf, turned, pushLook, advanceLook, rebaseLook, settleAt, stepLook}
 use Rattle.model.specs.Gate.{sampleOf}
 use Rattle.model.specs.GateStores.{lookSize, lookF}
-use Rattle.windows.specs.declared.Cursor.{Cursor}
-use Rattle.windows.specs.Looks.{LookFits, looksIn, cursorIn, advancedOf, steppedLook}
+use Rattle.cursors.specs.declared.Cursor.{Cursor}
+use Rattle.cursors.specs.Cursors.{advancedOf}
+use Rattle.windows.specs.Looks.{LookFits, looksIn, cursorIn, steppedLook}
 use Rattle.model.proofs.WindowStores.{Shaped, look-long, look-back, read-shaped}
 
 pub push-shaped : (n : ℕ) (sample : ℕ → Float) (s : PowerLooks) → Shaped n s → Shaped n (pushLook n sample s)

@@ -1,66 +1,13 @@
 // Document 01, "Windows, ladder, gate": the windows of one length, over its part of the gate's f64 store.
 ghost use mathlib.Core.Path.{_≡_};
-ghost use Prim.Native.Nat.{_*_, _<_};
 ghost use lib.ListN.{length};
 ghost use Rattle.model.specs.Numbers.{f0};
 ghost use Rattle.model.specs.Windows.{pushLook, rebaseLook, total};
 ghost use Rattle.model.specs.Gate.{sampleOf};
 ghost use Rattle.model.specs.GateStores.{lookF};
-ghost use Rattle.windows.specs.Looks.{CursorFits, LookFits, advancedOf, middleFrom, looksIn, steppedLook};
-
-// Where the windows of one length stand: its length, the place of the next sample and how many places are filled.
-pub struct Cursor {
-    pub m: usize,
-    pub at: usize,
-    pub filled: usize,
-}
-
-// A cursor handed back with the place of its middle sample.
-pub struct Middle {
-    pub cursor: Cursor,
-    pub place: usize,
-}
-
-impl Cursor {
-    // One hop on: the place wraps at 2m, and filled stops there.
-    pub fn advance(self) -> Cursor
-        requires { ⌜ CursorFits self ⌝ }
-        ensures { λ r. ⌜ r ≡ advancedOf self ⌝ }
-    {
-        let m = self.m;
-        let at = self.at;
-        let filled = self.filled;
-        let width = 2 * m;
-        let next = (at + 1) % width;
-        if filled < width {
-            let grown = filled + 1;
-            return Cursor {
-                m: m,
-                at: next,
-                filled: grown,
-            };
-        }
-        Cursor {
-            m: m,
-            at: next,
-            filled: width,
-        }
-    }
-
-    // Half a ring on from the place of the next sample.
-    pub fn middle(self) -> Middle
-        requires { ⌜ CursorFits self ⌝ }
-        ensures { λ r. ⌜ (r ≡ middleFrom self) × (r .place < 2 * self .m) ⌝ }
-    {
-        let m = self.m;
-        let at = self.at;
-        let place = (at + m) % (2 * m);
-        Middle {
-            cursor: self,
-            place: place,
-        }
-    }
-}
+ghost use Rattle.cursors.specs.Cursors.{CursorFits};
+ghost use Rattle.windows.specs.Looks.{LookFits, looksIn, steppedLook};
+use cursors::Cursor;
 
 // Each channel takes its sample: previous gains (middle - old), recent gains (sample - middle), old becomes the sample.
 fn push_look(look: &mut [f64], c: Cursor, power: &[f32])

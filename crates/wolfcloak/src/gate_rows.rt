@@ -1,7 +1,7 @@
 // The C interface, the gate's rows.
 ghost use mathlib.Core.Path.{_≡_};
 ghost use Rattle.model.specs.GateCalls.{gateFLenFor, gateNew, gateUpdate, gateHold, smoothedReading, earlyReading};
-ghost use Rattle.wolfcloak.specs.Answers.{answered};
+ghost use Rattle.answers.specs.Answers.{answered};
 
 #[no_mangle]
 pub extern "C" fn wolfcloak_gate_f_len(n: usize, lengths: &[u16]) -> usize
@@ -64,7 +64,7 @@ pub extern "C" fn wolfcloak_smoothed_db(
 ) -> u16
     ensures { λ r. ⌜ (r, now (value .exit)) ≡ answered (now (value .entry)) (smoothedReading (now (gate .entry)) (now («gate_f» .entry)) k) ⌝ }
 {
-    crate::take_apart(gate_readings::smoothed_db(gate, gate_f, k), value)
+    answers::value_answer(gate_readings::smoothed_db(gate, gate_f, k), value)
 }
 
 #[no_mangle]
@@ -78,7 +78,7 @@ pub extern "C" fn wolfcloak_ema_rise(
 ) -> u16
     ensures { λ r. ⌜ (r, now (value .exit)) ≡ answered (now (value .entry)) (earlyReading (now (bank .entry)) (now («bank_f» .entry)) (now (gate .entry)) (now («gate_f» .entry)) k) ⌝ }
 {
-    crate::take_apart(
+    answers::value_answer(
         gate_readings::ema_rise(bank, bank_f, gate, gate_f, k),
         value,
     )

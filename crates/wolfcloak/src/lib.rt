@@ -1,4 +1,4 @@
-// The C interface: each call of the bank, and in gate_rows each of the gate, in a form that C can pass. An enum, a struct or a returned part is taken apart here.
+// The C interface: each call of the bank, and in gate_rows each of the gate, in a form that C can pass. An enum, a struct or a returned part is taken apart by `answers`.
 pub mod gate_rows;
 
 ghost use mathlib.Core.Path.{_≡_};
@@ -6,20 +6,20 @@ ghost use mathlib.Core.Bool.{false};
 ghost use Rattle.model.specs.Bank.{hop};
 ghost use Rattle.model.specs.Calls.{bankLenFor, bankFLenFor, bankNew, bankUpdate};
 ghost use Rattle.model.specs.Readings.{rawReading, effectiveReading, riseReading, referenceReading, floorsReading};
-ghost use Rattle.wolfcloak.specs.Answers.{answered, floorsAnswered, ringAnswered};
+ghost use Rattle.answers.specs.Answers.{answered, floorsAnswered, ringAnswered};
 
 #[no_mangle]
 pub extern "C" fn wolfcloak_bank_len(n: usize) -> usize
     ensures { λ r. ⌜ r ≡ bankLenFor n ⌝ }
 {
-    stores::bank_len(n)
+    store_sizes::bank_len(n)
 }
 
 #[no_mangle]
 pub extern "C" fn wolfcloak_bank_f_len(n: usize) -> usize
     ensures { λ r. ⌜ r ≡ bankFLenFor n ⌝ }
 {
-    stores::bank_f_len(n)
+    store_sizes::bank_f_len(n)
 }
 
 #[no_mangle]
@@ -54,21 +54,6 @@ pub extern "C" fn wolfcloak_bank_update_holding_reference(
     bank::bank_update_holding_reference(bank, bank_f, power_db, power, hold_reference)
 }
 
-// A reading's number, its value written only if it has one.
-fn take_apart(reading: model::Reading, value: &mut f64) -> u16
-    ensures { λ r. ⌜ (r, now (value .exit)) ≡ answered (now (value .entry)) reading ⌝ }
-{
-    match reading {
-        model::Reading::Value(x) => {
-            *value = x;
-            return 0;
-        }
-        model::Reading::Refused(no) => {
-            return no;
-        }
-    }
-}
-
 #[no_mangle]
 pub extern "C" fn wolfcloak_channel_floor_db(
     bank: &[u16],
@@ -78,7 +63,7 @@ pub extern "C" fn wolfcloak_channel_floor_db(
 ) -> u16
     ensures { λ r. ⌜ (r, now (value .exit)) ≡ answered (now (value .entry)) (rawReading (now (bank .entry)) (now («bank_f» .entry)) k) ⌝ }
 {
-    take_apart(readings::channel_floor_db(bank, bank_f, k), value)
+    answers::value_answer(readings::channel_floor_db(bank, bank_f, k), value)
 }
 
 #[no_mangle]
@@ -90,7 +75,7 @@ pub extern "C" fn wolfcloak_effective_floor_db(
 ) -> u16
     ensures { λ r. ⌜ (r, now (value .exit)) ≡ answered (now (value .entry)) (effectiveReading (now (bank .entry)) (now («bank_f» .entry)) k) ⌝ }
 {
-    take_apart(readings::effective_floor_db(bank, bank_f, k), value)
+    answers::value_answer(readings::effective_floor_db(bank, bank_f, k), value)
 }
 
 #[no_mangle]
@@ -102,7 +87,7 @@ pub extern "C" fn wolfcloak_rise_floor_db(
 ) -> u16
     ensures { λ r. ⌜ (r, now (value .exit)) ≡ answered (now (value .entry)) (riseReading (now (bank .entry)) (now («bank_f» .entry)) k) ⌝ }
 {
-    take_apart(readings::rise_floor_db(bank, bank_f, k), value)
+    answers::value_answer(readings::rise_floor_db(bank, bank_f, k), value)
 }
 
 #[no_mangle]
@@ -114,7 +99,7 @@ pub extern "C" fn wolfcloak_spectral_reference(
 ) -> u16
     ensures { λ r. ⌜ (r, now (value .exit)) ≡ answered (now (value .entry)) (referenceReading (now (bank .entry)) (now («bank_f» .entry)) k) ⌝ }
 {
-    take_apart(readings::spectral_reference(bank, bank_f, k), value)
+    answers::value_answer(readings::spectral_reference(bank, bank_f, k), value)
 }
 
 #[no_mangle]
@@ -128,18 +113,7 @@ pub extern "C" fn wolfcloak_floors(
 ) -> u16
     ensures { λ r. ⌜ (r, now (effective .exit), now (rise .exit), now (raw .exit)) ≡ floorsAnswered (now (effective .entry)) (now (rise .entry)) (now (raw .entry)) (floorsReading (now (bank .entry)) (now («bank_f» .entry)) k) ⌝ }
 {
-    let reading = readings::floors(bank, bank_f, k);
-    match reading {
-        model::FloorsReading::Value(x) => {
-            *effective = x.effective;
-            *rise = x.rise;
-            *raw = x.raw;
-            return 0;
-        }
-        model::FloorsReading::Refused(no) => {
-            return no;
-        }
-    }
+    answers::floors_answer(readings::floors(bank, bank_f, k), effective, rise, raw)
 }
 
 // Where in `bank` the ring of channel k lies.
@@ -153,11 +127,5 @@ pub extern "C" fn wolfcloak_ring(
 ) -> u16
     ensures { λ r. ⌜ (r, now (start .exit), now (len .exit)) ≡ ringAnswered (now (bank .entry)) (now («bank_f» .entry)) k (now (start .entry)) (now (len .entry)) ⌝ }
 {
-    let no = stores::read_refusal(bank, bank_f, k);
-    if no != 0 {
-        return no;
-    }
-    *start = channel_readings::ring_start(bank, k);
-    *len = 250;
-    0
+    answers::ring_answer(bank, bank_f, k, start, len)
 }

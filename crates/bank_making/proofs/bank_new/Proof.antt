@@ -5,7 +5,7 @@ use native.Mathlib.Omega.{arith}
 use lib.ListN.{length}
 use lib.Ieee.{Float}
 use borrow.Author.Needs.{needs}
-use Rattle.stores.proofs.Sizes.{Fits, fit}
+use Rattle.store_sizes.proofs.Sizes.{Fits, fit}
 use Rattle.bank_making.proofs.Makes.{new-refused, new-made}
 use Rattle.bank_making.proofs.bank_new.Statement.{statement}
 use Rattle.bank_making.proofs.bank_new.Tie as tie

@@ -11,7 +11,7 @@ use Rattle.laws.specs.Tests.{anyBelow}
 use Rattle.laws.proofs.Tests.{any-more, any-at, any-done}
 use Rattle.model.specs.Windows.{lookRises}
 use Rattle.model.specs.GateStores.{mAt, lookSize}
-use Rattle.windows.specs.declared.Cursor.{Cursor}
+use Rattle.cursors.specs.declared.Cursor.{Cursor}
 use Rattle.model.specs.GoodGate.{GateReady}
 use Rattle.model.proofs.GateStores.{startAt}
 use Rattle.model.proofs.GoodGates.{sizes}

@@ -12,7 +12,7 @@ use Rattle.model.specs.GoodGate.{GateReady}
 use Rattle.model.proofs.GateStores.{startAt, sizeAt}
 use Rattle.model.proofs.GoodGates.{sizes}
 use Rattle.gate_step.proofs.Looks.{looksU, looksF, looks-begin-u, looks-begin-f, looks-long-u, looks-long-f}
-use Rattle.windows.specs.declared.Cursor.{Cursor}
+use Rattle.cursors.specs.declared.Cursor.{Cursor}
 use Rattle.gate_cursors.specs.Paired.{cursorOf}
 use Rattle.gate_cursors.proofs.Lengths.{lent-within, lent-fits, small-length, cursor-fits}
 use Rattle.gate_step.proofs.Turns.{Turned, hopOf, hop-steady, turn-kept, turn-cursor, turned, turns-done}

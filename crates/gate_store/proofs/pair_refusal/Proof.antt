@@ -5,7 +5,7 @@ use borrow.Author.Needs.{needs}
 use Rattle.laws.proofs.Tests.{stands, goes-on}
 use Rattle.model.specs.Refusals.{bankRefusal}
 use Rattle.model.specs.GateCalls.{gateRefusal, pairRefusal}
-use Rattle.stores.proofs.Sizes.{at-least-three}
+use Rattle.stores.proofs.Banks.{at-least-three}
 use Rattle.gate_sound.proofs.Sizes.{thirty}
 use Rattle.gate_store.proofs.pair_refusal.Statement.{statement}
 use Rattle.gate_store.proofs.pair_refusal.Tie as tie

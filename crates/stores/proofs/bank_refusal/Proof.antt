@@ -7,8 +7,10 @@ use lib.ListN.{length, getD}
 use lib.Ieee.{Float}
 use borrow.Author.Needs.{needs}
 use Rattle.laws.specs.Tests.{first}
-use Rattle.stores.specs.Checks.{sizeRefusal, soundStore}
-use Rattle.stores.proofs.Sizes.{sizeOf, fit, short, wrong-size, told}
+use Rattle.store_sizes.specs.Checks.{sizeRefusal}
+use Rattle.store_sizes.proofs.Sizes.{fit}
+use Rattle.stores.specs.Checks.{soundStore}
+use Rattle.stores.proofs.Banks.{sizeOf, short, wrong-size, told}
 use Rattle.stores.proofs.bank_refusal.Statement.{statement}
 use Rattle.stores.proofs.bank_refusal.Tie as tie
 

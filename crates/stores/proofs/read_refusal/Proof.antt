@@ -4,7 +4,7 @@ use borrow.Author.Tests.{lt-ltb, le-ltb}
 use borrow.Author.Needs.{needs}
 use Rattle.laws.proofs.Tests.{stands, goes-on}
 use Rattle.model.specs.Refusals.{bankRefusal, readRefusal}
-use Rattle.stores.proofs.Sizes.{at-least-three}
+use Rattle.stores.proofs.Banks.{at-least-three}
 use Rattle.stores.proofs.read_refusal.Statement.{statement}
 use Rattle.stores.proofs.read_refusal.Tie as tie
 

@@ -1,7 +1,7 @@
 use mathlib.Core.Path.{sym, _∙_}
 use borrow.Author.Tests.{not-true, not-false}
 use borrow.Author.Needs.{needs}
-use Rattle.stores.proofs.Sizes.{head-fails, seeds-fail, channels-decide}
+use Rattle.stores.proofs.Banks.{head-fails, seeds-fail, channels-decide}
 use Rattle.stores.proofs.store_sound.Statement.{statement}
 use Rattle.stores.proofs.store_sound.Tie as tie
 

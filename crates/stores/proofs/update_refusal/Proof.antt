@@ -5,8 +5,8 @@ use lib.ListN.{length, getD}
 use borrow.Author.Needs.{needs}
 use Rattle.laws.proofs.Tests.{stands, goes-on}
 use Rattle.model.specs.Refusals.{bankRefusal, updateRefusal}
-use Rattle.stores.specs.Checks.{hopRefusal}
-use Rattle.stores.proofs.Sizes.{at-least-three}
+use Rattle.hop_refusals.specs.Checks.{hopRefusal}
+use Rattle.stores.proofs.Banks.{at-least-three}
 use Rattle.stores.proofs.update_refusal.Statement.{statement}
 use Rattle.stores.proofs.update_refusal.Tie as tie
 

@@ -9,7 +9,7 @@ use Rattle.laws.proofs.Lists.{row}
 use Rattle.laws.proofs.Defaults.{getD-any}
 use Rattle.model.specs.Numbers.{f0, powerLinear}
 use Rattle.model.specs.Windows.{PowerLooks}
-use Rattle.windows.specs.declared.Middle.{Middle}
+use Rattle.cursors.specs.declared.Middle.{Middle}
 use Rattle.windows.specs.Looks.{looksIn}
 use Rattle.model.specs.Gate.{sampleOf}
 use Rattle.model.specs.GateStores.{lookOf}
