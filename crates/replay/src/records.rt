@@ -1,9 +1,9 @@
 // The next record, on the parts of the buffers that its bank and its gate take.
+use laws::least;
 use low_first::byte_at;
 use replay_calls::banks::replay_bank;
 use replay_calls::gates::replay_gate;
 use replay_data::list::index;
-use replay_data::list::least;
 use replay_data::state::GATE_LEN;
 use replay_data::state::MOST;
 use replay_data::state::MOST_F_LEN;

@@ -1,4 +1,5 @@
 // The records of a gate: one call each, with what is due.
+use laws::least;
 use low_first::byte_at;
 use low_first::double_at;
 use low_first::eight_bytes;
@@ -12,7 +13,6 @@ use replay_data::compare::sum_of;
 use replay_data::hop::fill_hop;
 use replay_data::list::after;
 use replay_data::list::index;
-use replay_data::list::least;
 use replay_data::list::wide;
 use replay_data::state::MOST;
 use replay_data::state::Replay;

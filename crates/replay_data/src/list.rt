@@ -1,6 +1,6 @@
 // Places in the list, and numbers that its bytes say.
 
-ghost use Prim.Native.Nat.{_≤_, _<_};
+ghost use Prim.Native.Nat.{_<_};
 
 // The list is far shorter than any number that wraps.
 pub fn after(at: usize, bytes: usize) -> usize {
@@ -15,11 +15,4 @@ pub fn index(x: u8) -> usize
 
 pub fn wide(x: u8) -> u16 {
     x as u16
-}
-
-// As many as are asked for, or as many as there are.
-pub fn least(asked: usize, there: usize) -> usize
-    ensures { λ r. ⌜ r ≤ there ⌝ }
-{
-    if asked < there { asked } else { there }
 }

@@ -1,12 +1,9 @@
 -- The figures of a report that are neither a reading nor a count.
 use mathlib.Core.Bool.{Bool, false, cond}
 use Prim.Native.Nat.{ℕ, _+_, _*_, _/_, _%_, _^_}
-use lib.Dec.{eqb, ltb}
+use lib.Dec.{eqb}
 use lib.Ieee.{nan}
 use Rattle.model.specs.declared.Floors.{Floors}
-
-abbrev pub least : ℕ → ℕ → ℕ
-least a b = cond (ltb a b) a b
 
 -- a level in thousandths of a dB, of eighths
 abbrev pub thousandths : ℕ → ℕ

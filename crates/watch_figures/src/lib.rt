@@ -1,12 +1,12 @@
 // The figures of a report that are neither a reading nor a count.
 ghost use mathlib.Core.Path.{_≡_};
-ghost use Prim.Native.Nat.{_≤_, _<_};
+ghost use Prim.Native.Nat.{_<_};
 ghost use lib.Ieee.{nan};
 ghost use lib.ListN.{getD};
 ghost use Rattle.laws.specs.Lists.{one};
 ghost use Rattle.model.specs.Readings.{valueOr, floorsOr};
 ghost use Rattle.watch_figures.specs.Figures.{noFloors, endsMinute, wholeSeconds, endByte};
-ghost use Rattle.watch_figures.specs.Figures.{thousandths as Figures·thousandths, least as Figures·least};
+ghost use Rattle.watch_figures.specs.Figures.{thousandths as Figures·thousandths};
 use model::Floors;
 use model::FloorsReading;
 use model::Reading;
@@ -15,13 +15,6 @@ pub fn wide(n: u16) -> u64
     ensures { λ r. ⌜ (r ≡ n) × (r < 65536) ⌝ }
 {
     n as u64
-}
-
-// As many as are asked for, or as many as there are.
-pub fn least(asked: usize, there: usize) -> usize
-    ensures { λ r. ⌜ (r ≡ Figures·least asked there) × (r ≤ there) ⌝ }
-{
-    if asked < there { asked } else { there }
 }
 
 pub fn bit(is_on: bool) -> u64

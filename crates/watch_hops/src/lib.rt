@@ -1,8 +1,8 @@
 // The hops one after another: read, heard, told and counted.
 ghost use mathlib.Core.Path.{_≡_};
 ghost use Rattle.watch_hops.specs.Followed.{isTaken, stopped, afterHop, followed};
+use laws::least;
 use laws::wide;
-use watch_figures::least;
 use watch_hear::Heard;
 use watch_hear::hear;
 use watch_notices::faults;

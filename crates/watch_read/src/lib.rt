@@ -1,5 +1,5 @@
 // The next hop of a recording.
-use watch_figures::least;
+use laws::least;
 use watch_recording::MOST_HOP_BYTES;
 use watch_recording::Step;
 
