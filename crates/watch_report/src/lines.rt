@@ -1,20 +1,17 @@
 // What a hop gives to print: a line for each change, or on a slow hop one for each channel.
 use crate::out::put_reference;
-use watch_figures::bit;
 use watch_figures::ends_minute;
 use watch_figures::float_at;
 use watch_figures::floors_of;
 use watch_figures::value;
 use watch_figures::whole_seconds;
-use watch_floats::put_db;
 use watch_floats::put_power;
-use watch_names::put_change;
-use watch_names::put_event;
+use watch_lines::put_change_line;
+use watch_lines::put_row_line;
 use watch_notices::out::cry;
 use watch_notices::out::say;
 use watch_text::LINE;
 use watch_text::put_number;
-use watch_text::put_seconds;
 use watch_text::put_text;
 use watch_words::Settings;
 
@@ -97,18 +94,8 @@ fn print_change(
 ) {
     let mut line = [0u8; LINE];
     let f = floors_of(readings::floors(bank, bank_f, k));
-    let at = put_number(&mut line, 0, hop, 8);
-    let at = put_seconds(&mut line, at, hop, 10);
-    let at = put_number(&mut line, at, k as u64, 9);
-    let at = put_change(&mut line, at, is_alive);
-    let at = put_db(
-        &mut line,
-        at,
-        value(gate_readings::smoothed_db(gate, gate_f, k)),
-        11,
-    );
-    let at = put_db(&mut line, at, f.effective, 11);
-    let at = put_db(&mut line, at, f.rise, 12);
+    let smoothed = value(gate_readings::smoothed_db(gate, gate_f, k));
+    let at = put_change_line(&mut line, hop, k, is_alive, smoothed, f);
     let at = put_reference(&mut line, at, bank, bank_f, k, s.has_reference && is_alive);
     let at = put_text(&mut line, at, b"\n");
     say(&line, at);
@@ -143,11 +130,6 @@ fn print_rows(
     }
 }
 
-fn put_comma_db(line: &mut [u8; LINE], at: usize, x: f64) -> usize {
-    let at = put_text(line, at, b",");
-    put_db(line, at, x, 0)
-}
-
 fn print_row(
     hop: u64,
     s: Settings,
@@ -162,24 +144,8 @@ fn print_row(
 ) {
     let mut line = [0u8; LINE];
     let f = floors_of(readings::floors(bank, bank_f, k));
-    let at = put_number(&mut line, 0, hop, 0);
-    let at = put_text(&mut line, at, b",");
-    let at = put_seconds(&mut line, at, hop, 0);
-    let at = put_text(&mut line, at, b",");
-    let at = put_number(&mut line, at, k as u64, 0);
-    let at = put_comma_db(&mut line, at, db);
-    let at = put_comma_db(
-        &mut line,
-        at,
-        value(gate_readings::smoothed_db(gate, gate_f, k)),
-    );
-    let at = put_comma_db(&mut line, at, f.raw);
-    let at = put_comma_db(&mut line, at, f.effective);
-    let at = put_comma_db(&mut line, at, f.rise);
-    let at = put_text(&mut line, at, b",");
-    let at = put_number(&mut line, at, bit(is_alive), 0);
-    let at = put_text(&mut line, at, b",");
-    let at = put_event(&mut line, at, event);
+    let smoothed = value(gate_readings::smoothed_db(gate, gate_f, k));
+    let at = put_row_line(&mut line, hop, k, db, smoothed, f, is_alive, event);
     let at = put_csv_reference(&mut line, at, s, bank, bank_f, k, is_alive);
     let at = put_text(&mut line, at, b"\n");
     say(&line, at);

@@ -2,12 +2,10 @@
 use crate::out::put_reference;
 use libc::STDOUT_FILENO;
 use watch_figures::floors_of;
-use watch_floats::put_db;
-use watch_names::put_state;
+use watch_lines::put_channel_line;
+use watch_lines::put_total_line;
 use watch_notices::out::say;
 use watch_text::LINE;
-use watch_text::put_number;
-use watch_text::put_seconds;
 use watch_text::put_text;
 use watch_words::Settings;
 
@@ -40,11 +38,7 @@ pub fn print_tail(
 
 fn print_total(hops: u64) {
     let mut line = [0u8; LINE];
-    let at = put_text(&mut line, 0, b"\nAfter ");
-    let at = put_number(&mut line, at, hops, 0);
-    let at = put_text(&mut line, at, b" hops, ");
-    let at = put_seconds(&mut line, at, hops, 0);
-    let at = put_text(&mut line, at, b" s, floors in dB:\n\n");
+    let at = put_total_line(&mut line, hops);
     say(&line, at);
     io::write_all(
         STDOUT_FILENO,
@@ -63,13 +57,7 @@ fn print_channel(
 ) {
     let mut line = [0u8; LINE];
     let f = floors_of(readings::floors(bank, bank_f, k));
-    let at = put_number(&mut line, 0, k as u64, 7);
-    let at = put_db(&mut line, at, f.raw, 11);
-    let at = put_db(&mut line, at, f.effective, 11);
-    let at = put_db(&mut line, at, f.rise, 12);
-    let at = put_seconds(&mut line, at, alive_hops, 10);
-    let at = put_number(&mut line, at, rises, 7);
-    let at = put_state(&mut line, at, is_alive);
+    let at = put_channel_line(&mut line, k, f, alive_hops, rises, is_alive);
     let at = put_reference(&mut line, at, bank, bank_f, k, s.has_reference && is_alive);
     let at = put_text(&mut line, at, b"\n");
     say(&line, at);
