@@ -1,8 +1,12 @@
 // What a hop gives to print: a line for each change, or on a slow hop one for each channel.
+ghost use mathlib.Core.Path.{_≡_};
+ghost use Rattle.model.specs.Readings.{referenceReading};
+ghost use Rattle.watch_lines.specs.Lines.{putTexts, changeLine, rowLine};
+ghost use Rattle.watch_report.specs.Shown.{floorsShown, smoothedShown, referenceCell};
+use crate::out::floors_shown;
 use crate::out::put_reference;
 use watch_figures::ends_minute;
 use watch_figures::float_at;
-use watch_figures::floors_of;
 use watch_figures::value;
 use watch_figures::whole_seconds;
 use watch_floats::put_power;
@@ -82,6 +86,30 @@ fn print_changes(
     }
 }
 
+fn smoothed_shown(gate: &[u16], gate_f: &[f64], k: usize) -> f64
+    ensures { λ r. ⌜ r ≡ smoothedShown (now (gate .entry)) (now («gate_f» .entry)) k ⌝ }
+{
+    value(gate_readings::smoothed_db(gate, gate_f, k))
+}
+
+// A change with the channel's readings.
+fn put_change_of(
+    line: &mut [u8; LINE],
+    hop: u64,
+    bank: &[u16],
+    bank_f: &[f64],
+    gate: &[u16],
+    gate_f: &[f64],
+    k: usize,
+    is_alive: bool,
+) -> usize
+    ensures { λ r. ⌜ (now (line .exit), r) ≡ putTexts (now (line .entry), 0) (changeLine hop k «is_alive» (smoothedShown (now (gate .entry)) (now («gate_f» .entry)) k) (floorsShown (now (bank .entry)) (now («bank_f» .entry)) k)) ⌝ }
+{
+    let f = floors_shown(bank, bank_f, k);
+    let smoothed = smoothed_shown(gate, gate_f, k);
+    put_change_line(line, hop, k, is_alive, smoothed, f)
+}
+
 fn print_change(
     hop: u64,
     s: Settings,
@@ -93,9 +121,7 @@ fn print_change(
     is_alive: bool,
 ) {
     let mut line = [0u8; LINE];
-    let f = floors_of(readings::floors(bank, bank_f, k));
-    let smoothed = value(gate_readings::smoothed_db(gate, gate_f, k));
-    let at = put_change_line(&mut line, hop, k, is_alive, smoothed, f);
+    let at = put_change_of(&mut line, hop, bank, bank_f, gate, gate_f, k, is_alive);
     let at = put_reference(&mut line, at, bank, bank_f, k, s.has_reference && is_alive);
     let at = put_text(&mut line, at, b"\n");
     say(&line, at);
@@ -130,6 +156,26 @@ fn print_rows(
     }
 }
 
+// A row with the channel's readings.
+fn put_row_of(
+    line: &mut [u8; LINE],
+    hop: u64,
+    db: f64,
+    bank: &[u16],
+    bank_f: &[f64],
+    gate: &[u16],
+    gate_f: &[f64],
+    k: usize,
+    is_alive: bool,
+    event: u8,
+) -> usize
+    ensures { λ r. ⌜ (now (line .exit), r) ≡ putTexts (now (line .entry), 0) (rowLine hop k db (smoothedShown (now (gate .entry)) (now («gate_f» .entry)) k) (floorsShown (now (bank .entry)) (now («bank_f» .entry)) k) «is_alive» event) ⌝ }
+{
+    let f = floors_shown(bank, bank_f, k);
+    let smoothed = smoothed_shown(gate, gate_f, k);
+    put_row_line(line, hop, k, db, smoothed, f, is_alive, event)
+}
+
 fn print_row(
     hop: u64,
     s: Settings,
@@ -143,10 +189,19 @@ fn print_row(
     event: u8,
 ) {
     let mut line = [0u8; LINE];
-    let f = floors_of(readings::floors(bank, bank_f, k));
-    let smoothed = value(gate_readings::smoothed_db(gate, gate_f, k));
-    let at = put_row_line(&mut line, hop, k, db, smoothed, f, is_alive, event);
-    let at = put_csv_reference(&mut line, at, s, bank, bank_f, k, is_alive);
+    let at = put_row_of(
+        &mut line,
+        hop,
+        db,
+        bank,
+        bank_f,
+        gate,
+        gate_f,
+        k,
+        is_alive,
+        event,
+    );
+    let at = put_csv_reference(&mut line, at, s.has_reference, bank, bank_f, k, is_alive);
     let at = put_text(&mut line, at, b"\n");
     say(&line, at);
 }
@@ -154,23 +209,21 @@ fn print_row(
 fn put_csv_reference(
     line: &mut [u8; LINE],
     at: usize,
-    s: Settings,
+    is_asked: bool,
     bank: &[u16],
     bank_f: &[f64],
     k: usize,
     is_alive: bool,
-) -> usize {
-    if !s.has_reference {
+) -> usize
+    ensures { λ r. ⌜ (now (line .exit), r) ≡ putTexts (now (line .entry), at) (referenceCell «is_asked» «is_alive» (referenceReading (now (bank .entry)) (now («bank_f» .entry)) k)) ⌝ }
+{
+    if !is_asked {
         return at;
     }
-    let at = put_text(line, at, b",");
+    let end = put_text(line, at, b",");
     if !is_alive {
-        return at;
+        return end;
     }
-    put_power(
-        line,
-        at,
-        value(readings::spectral_reference(bank, bank_f, k)),
-        0,
-    )
+    let x = value(readings::spectral_reference(bank, bank_f, k));
+    put_power(line, end, x, 0)
 }

@@ -1,7 +1,20 @@
 // What lines of hops and of the end have in common.
+ghost use mathlib.Core.Path.{_≡_};
+ghost use Rattle.model.specs.Readings.{referenceReading};
+ghost use Rattle.watch_text.specs.Text.{putAll};
+ghost use Rattle.watch_report.specs.Shown.{floorsShown, referenceColumn};
+use model::Floors;
+use watch_figures::floors_of;
 use watch_figures::value;
 use watch_floats::put_power;
 use watch_text::LINE;
+
+// The three floors of a channel.
+pub fn floors_shown(bank: &[u16], bank_f: &[f64], k: usize) -> Floors
+    ensures { λ r. ⌜ r ≡ floorsShown (now (bank .entry)) (now («bank_f» .entry)) k ⌝ }
+{
+    floors_of(readings::floors(bank, bank_f, k))
+}
 
 // The spectral reference of a channel, at the right of a column.
 pub fn put_reference(
@@ -11,14 +24,12 @@ pub fn put_reference(
     bank_f: &[f64],
     k: usize,
     is_shown: bool,
-) -> usize {
+) -> usize
+    ensures { λ r. ⌜ (now (line .exit), r) ≡ putAll (now (line .entry), at) (referenceColumn «is_shown» (referenceReading (now (bank .entry)) (now («bank_f» .entry)) k)) ⌝ }
+{
     if !is_shown {
         return at;
     }
-    put_power(
-        line,
-        at,
-        value(readings::spectral_reference(bank, bank_f, k)),
-        11,
-    )
+    let x = value(readings::spectral_reference(bank, bank_f, k));
+    put_power(line, at, x, 11)
 }

@@ -1,7 +1,7 @@
 // The channels at the end of a report.
+use crate::out::floors_shown;
 use crate::out::put_reference;
 use libc::STDOUT_FILENO;
-use watch_figures::floors_of;
 use watch_lines::put_channel_line;
 use watch_lines::put_total_line;
 use watch_notices::out::say;
@@ -56,7 +56,7 @@ fn print_channel(
     rises: u64,
 ) {
     let mut line = [0u8; LINE];
-    let f = floors_of(readings::floors(bank, bank_f, k));
+    let f = floors_shown(bank, bank_f, k);
     let at = put_channel_line(&mut line, k, f, alive_hops, rises, is_alive);
     let at = put_reference(&mut line, at, bank, bank_f, k, s.has_reference && is_alive);
     let at = put_text(&mut line, at, b"\n");

@@ -1,0 +1,31 @@
+-- What a line shows of the bank and the gate: readings, by channel.
+use mathlib.Core.Bool.{Bool, true, false}
+use mathlib.Core.List.{List, [], _∷_}
+use Prim.Native.Nat.{ℕ}
+use lib.Ieee.{Float, nan}
+use Rattle.laws.specs.Texts.{ascii}
+use Rattle.model.specs.declared.Floors.{Floors}
+use Rattle.model.specs.declared.Reading.{Reading}
+use Rattle.model.specs.Readings.{valueOr, floorsOr, floorsReading}
+use Rattle.model.specs.GateCalls.{smoothedReading}
+use Rattle.watch_text.specs.Text.{right}
+use Rattle.watch_floats.specs.Floats.{powerText}
+use Rattle.watch_figures.specs.Figures.{noFloors}
+
+-- a refused reading shows as no number
+abbrev pub floorsShown : List ℕ → List Float → ℕ → Floors
+floorsShown bu bf k = floorsOr noFloors (floorsReading bu bf k)
+
+abbrev pub smoothedShown : List ℕ → List Float → ℕ → Float
+smoothedShown gu gf k = valueOr nan (smoothedReading gu gf k)
+
+-- the spectral reference, at the right of a column, where it is asked for
+abbrev pub referenceColumn : Bool → Reading → List ℕ
+referenceColumn true r = right 11 (powerText (valueOr nan r))
+referenceColumn false r = []
+
+-- in a row of CSV, where it is asked for: empty for a channel that is idle
+abbrev pub referenceCell : Bool → Bool → Reading → List (List ℕ)
+referenceCell false alive r = []
+referenceCell true false r = ascii "," ∷ []
+referenceCell true true r = ascii "," ∷ powerText (valueOr nan r) ∷ []
