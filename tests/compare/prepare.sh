@@ -11,8 +11,9 @@ lib=${LIB:-$root/target/staticlib}
 archive=$lib/libwolfcloak.a
 if [ -z "${LIB:-}" ]; then
     if [ ! -f "$archive" ] || [ -n "$(find "$root/crates" -name '*.rt' -newer "$archive")" ]; then
-        # `rt check` first: it proves two crates at a time, `rt staticlib` one
-        (cd "$root" && rt check wolfcloak && rt staticlib wolfcloak)
+        # What the library is made of first: `rt check` proves two crates at a time, `rt staticlib` one.
+        parts=$(sed -n '/^\(#\|wolfcloak\|low_first\|replay\|watch\)/!s/:.*//p' "$root/crates.txt")
+        (cd "$root" && rt check $parts && rt staticlib wolfcloak)
     fi
 fi
 mkdir -p build
