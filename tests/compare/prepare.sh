@@ -1,5 +1,5 @@
 # Sourced by the run scripts of compare and bench, from a folder beside this one: builds the oracle and sets lib, the folder of
-# libwolfcloak.a. LIB: that folder, if not the one that `rt staticlib wolfcloak` writes. SHARED: what stands beside the repository
+# libwolfcloak.a. LIB: that folder, if not the one that tools/library writes. SHARED: what stands beside the repository
 # as shared/, if it is elsewhere.
 root=$(cd ../.. && pwd)
 src=${SHARED:-$root/../shared}/docs/src/crates/manta-dsp/src
@@ -11,9 +11,7 @@ lib=${LIB:-$root/target/staticlib}
 archive=$lib/libwolfcloak.a
 if [ -z "${LIB:-}" ]; then
     if [ ! -f "$archive" ] || [ -n "$(find "$root/crates" -name '*.rt' -newer "$archive")" ]; then
-        # What the library is made of first: `rt check` proves two crates at a time, `rt staticlib` one.
-        parts=$(sed -n '/^\(#\|wolfcloak\|low_first\|replay\|watch\)/!s/:.*//p' "$root/crates.txt")
-        (cd "$root" && rt check $parts && rt staticlib wolfcloak)
+        "$root/tools/library"
     fi
 fi
 mkdir -p build
