@@ -23,7 +23,7 @@ nameIn (e ∷ es) other n = cond (eqb n (e .0)) (e .1) (nameIn es other n)
 abbrev pub eventName : ℕ → List ℕ
 eventName = nameIn ((0, []) ∷ (1, ascii "rise") ∷ (2, ascii "drop") ∷ []) (ascii "rise+drop")
 
--- document 01's numbers and words of the refusals
+-- document 01's numbers and words of the refusals; 9, the last, is unsound
 abbrev pub refusalName : ℕ → List ℕ
 refusalName =
     nameIn
@@ -33,6 +33,7 @@ refusalName =
     ∷ (4, ascii "level: -100 to 100 dB")
     ∷ (5, ascii "hop size")
     ∷ (6, ascii "garbled: a dB value is not a number on a slow hop")
+    ∷ (7, ascii "channel: no such channel")
     ∷ (8, ascii "mismatch")
     ∷ [])
     (ascii "unsound")

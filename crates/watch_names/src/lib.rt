@@ -51,6 +51,7 @@ pub fn put_refusal(line: &mut [u8; LINE], at: usize, no: u16) -> usize
             at,
             b"garbled: a dB value is not a number on a slow hop",
         ),
+        7 => put_text(line, at, b"channel: no such channel"),
         8 => put_text(line, at, b"mismatch"),
         _ => put_text(line, at, b"unsound"),
     }

@@ -1,7 +1,7 @@
 -- A reference that is shown, or not, by what was asked on the way. Assumes nothing.
 use mathlib.Core.Path.{_≡_, refl, ap, _∙_}
 use mathlib.Core.Bool.{Bool, true, false}
-use mathlib.Core.List.{List, [], _∷_}
+use mathlib.Core.List.{[], _∷_}
 use lib.Ieee.{Float, nan}
 use Rattle.laws.specs.Texts.{ascii}
 use Rattle.model.specs.declared.Reading.{Reading}

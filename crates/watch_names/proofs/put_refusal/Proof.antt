@@ -51,6 +51,12 @@ slice-aggregate-put-text-8 c = search needs
 put-text-requires-8 : tie.Need-put-text-requires-8
 put-text-requires-8 c κs = search needs
 
+slice-aggregate-put-text-9 : tie.Need-slice-aggregate-put-text-9
+slice-aggregate-put-text-9 c = search needs
+
+put-text-requires-9 : tie.Need-put-text-requires-9
+put-text-requires-9 c κs = search needs
+
 returns : tie.Need-returns
 returns c = simp (c .before .before .before .match .keys1) (c .put-text .ensures)
 
@@ -73,7 +79,10 @@ returns-7 : tie.Need-returns-7
 returns-7 c = simp (c .before .before .before .match .keys7) (c .put-text7 .ensures)
 
 returns-8 : tie.Need-returns-8
-returns-8 c = simp (ne-eqb _ _ (c .before .before .before .match .rest .0 .0 .0 .0 .0 .0 .1), ne-eqb _ _ (c .before .before .before .match .rest .0 .0 .0 .0 .0 .1), ne-eqb _ _ (c .before .before .before .match .rest .0 .0 .0 .0 .1), ne-eqb _ _ (c .before .before .before .match .rest .0 .0 .0 .1), ne-eqb _ _ (c .before .before .before .match .rest .0 .0 .1), ne-eqb _ _ (c .before .before .before .match .rest .0 .1), ne-eqb _ _ (c .before .before .before .match .rest .1)) (c .put-text8 .ensures)
+returns-8 c = simp (c .before .before .before .match .keys8) (c .put-text8 .ensures)
+
+returns-9 : tie.Need-returns-9
+returns-9 c = simp (ne-eqb _ _ (c .before .before .before .match .rest .0 .0 .0 .0 .0 .0 .0 .1), ne-eqb _ _ (c .before .before .before .match .rest .0 .0 .0 .0 .0 .0 .1), ne-eqb _ _ (c .before .before .before .match .rest .0 .0 .0 .0 .0 .1), ne-eqb _ _ (c .before .before .before .match .rest .0 .0 .0 .0 .1), ne-eqb _ _ (c .before .before .before .match .rest .0 .0 .0 .1), ne-eqb _ _ (c .before .before .before .match .rest .0 .0 .1), ne-eqb _ _ (c .before .before .before .match .rest .0 .1), ne-eqb _ _ (c .before .before .before .match .rest .1)) (c .put-text9 .ensures)
 
 pub put-refusal-spec : {M : Type 1} → statement M
 put-refusal-spec =
@@ -95,6 +104,8 @@ put-refusal-spec =
     put-text-requires-7
     slice-aggregate-put-text-8
     put-text-requires-8
+    slice-aggregate-put-text-9
+    put-text-requires-9
     returns
     returns-2
     returns-3
@@ -102,4 +113,5 @@ put-refusal-spec =
     returns-5
     returns-6
     returns-7
-    returns-8)
+    returns-8
+    returns-9)

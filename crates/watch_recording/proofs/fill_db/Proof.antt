@@ -1,10 +1,9 @@
 use lib.Ieee.{Float}
-use mathlib.Core.Path.{_≡_, refl, sym, ap, _∙_}
+use mathlib.Core.Path.{_≡_, refl}
 use mathlib.Core.List.{List}
-use Prim.Native.Nat.{ℕ, suc, _-_, _+_, _*_, _≤_}
+use Prim.Native.Nat.{ℕ, _-_, _+_, _*_}
 use native.Mathlib.Omega.{arith}
-use lib.ListN.{length, length-set}
-use Rattle.laws.specs.Lists.{splice, tab}
+use lib.ListN.{length}
 use Rattle.laws.proofs.Fills.{Filled, begins, turns, done}
 use Rattle.low_first.specs.LowFirst.{doubleAt}
 use borrow.Author.Needs.{needs}

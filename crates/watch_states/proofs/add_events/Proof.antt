@@ -1,13 +1,12 @@
 use mathlib.Core.List.{List}
 use mathlib.Core.Path.{_≡_, refl}
-use Prim.Native.Nat.{ℕ, _-_, _≤_}
+use Prim.Native.Nat.{ℕ, _-_}
 use native.Mathlib.Omega.{arith}
-use lib.ListN.{length, getD, length-set}
+use lib.ListN.{length, getD}
 use lib.Bits.{bitOr}
 use borrow.Author.Needs.{needs}
 use Rattle.laws.proofs.Fills.{Filled, begins, unwritten, turns, done}
 use Rattle.watch_states.specs.States.{changeAt, eventsAfter}
-use Rattle.laws.specs.Lists.{splice, tab}
 use Rattle.watch_states.proofs.add_events.Statement.{statement}
 use Rattle.watch_states.proofs.add_events.Tie as tie
 

@@ -1,10 +1,9 @@
-use mathlib.Core.Path.{_≡_, refl, _∙_}
-use Prim.Native.Nat.{ℕ, _-_, _≤_}
+use mathlib.Core.Path.{_≡_, refl}
+use Prim.Native.Nat.{ℕ, _-_}
 use native.Mathlib.Omega.{arith}
-use lib.ListN.{length, length-set}
+use lib.ListN.{length}
 use borrow.Author.Needs.{needs}
 use Rattle.laws.proofs.Fills.{Filled, begins, turns, done}
-use Rattle.laws.specs.Lists.{splice, tab}
 use Rattle.watch_states.proofs.clear.Statement.{statement}
 use Rattle.watch_states.proofs.clear.Tie as tie
 

@@ -1,9 +1,9 @@
-use mathlib.Core.Path.{_≡_, refl, sym, ap, _∙_}
+use mathlib.Core.Path.{_≡_, refl, ap, _∙_}
 use mathlib.Core.List.{List}
-use Prim.Native.Nat.{ℕ, _-_, _+_, _%_, _^_, _≤_}
+use Prim.Native.Nat.{ℕ, _-_, _+_, _%_, _^_}
 use native.Mathlib.Omega.{arith}
-use lib.ListN.{length, getD, length-set}
-use Rattle.laws.specs.Lists.{splice, tab, one}
+use lib.ListN.{length, getD}
+use Rattle.laws.specs.Lists.{one}
 use Rattle.laws.proofs.Fills.{Filled, begins, unwritten, turns, done}
 use lib.Dec.{eqb}
 use Rattle.watch_states.specs.States.{changeAt, risesAfter}
