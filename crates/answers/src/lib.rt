@@ -1,6 +1,6 @@
 // A reading taken apart for C: the answer's number, and what is written behind the caller's references, only where the number is 0.
 ghost use mathlib.Core.Path.{_≡_};
-ghost use Rattle.answers.specs.Answers.{answered, floorsAnswered, ringAnswered};
+ghost use Rattle.answers.specs.Answers.{answered, floorsAnswered, ringAnswered, worstAnswered};
 
 // A reading's number, its value written only if it has one.
 pub fn value_answer(reading: model::Reading, value: &mut f64) -> u16
@@ -56,4 +56,22 @@ pub fn ring_answer(
     *start = channel_readings::ring_start(bank, k);
     *len = 250;
     0
+}
+
+// The worst floor of late: 101 is "none yet".
+pub fn worst_answer(reading: model::WorstReading, value: &mut f64) -> u16
+    ensures { λ r. ⌜ (r, now (value .exit)) ≡ worstAnswered (now (value .entry)) reading ⌝ }
+{
+    match reading {
+        model::WorstReading::Value(x) => {
+            *value = x;
+            return 0;
+        }
+        model::WorstReading::NoneYet => {
+            return 101;
+        }
+        model::WorstReading::Refused(no) => {
+            return no;
+        }
+    }
 }

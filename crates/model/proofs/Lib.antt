@@ -9,6 +9,9 @@ pub mod BankStores
 pub mod GoodBanks
 pub mod FreshBanks
 pub mod Reach
+pub mod WorstStores
+pub mod WorstTurns
+pub mod WorstReach
 pub mod WindowStores
 pub mod GateStores
 pub mod GoodGates

@@ -15,6 +15,9 @@ pub mod Sound
 pub mod GoodBank
 pub mod GoodGate
 pub mod Reach
+pub mod Worst
+pub mod WorstCalls
+pub mod GoodWorst
 pub mod Demand3
 pub mod Sets
 pub mod Exports
