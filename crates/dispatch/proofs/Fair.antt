@@ -15,7 +15,7 @@ use Rattle.laws.proofs.Tests.{by-test, clash, and-l, and-r, and-true, or-l}
 use Rattle.dispatch.specs.declared.Dispatched.{Dispatched}
 use Rattle.dispatch.specs.declared.Dispatched.the-variants.{Segment, NoneWaiting, Refused}
 use Rattle.dispatch.specs.Dispatch.{waits, strays, wrong, firstAfter, dispatchOf, givenBack}
-use Rattle.dispatch.specs.Fair.{stepsTo, InTurn, Right, ticks, isAccepted, serves, every, some, FairWithin, Fair, FairInEight}
+use Rattle.dispatch.specs.Fair.{stepsTo, InTurn, Right, ticks, isAccepted, serves, every, some, FairWithin, Fair, FairInEight, acceptedOf, RefusedLeftOut}
 use Rattle.dispatch.proofs.Steps.{here, later}
 use Rattle.dispatch.proofs.Turns.{steps-by, steps-low, steps-high, steps-same, last-below, answers-right}
 
@@ -146,3 +146,18 @@ fair-within n count c last i b ws a l e q =
 
 pub fair-in-eight : FairInEight
 fair-in-eight count last i b ws a l e q = fair-within _ count (omega (arith, few _ count ws a last (omega arith) l q)) last i b ws a l e q
+
+-- ---- refused ticks between accepted ones
+
+refused-keeps : (last : ℕ) (a : Dispatched) → isAccepted a ≡ false → givenBack last a ≡ last
+refused-keeps last (Segment j) e = clash e
+refused-keeps last NoneWaiting e = clash e
+refused-keeps last (Refused r) e = refl
+
+pub refused-left-out : RefusedLeftOut
+refused-left-out count last [] = refl
+refused-left-out count last (w ∷ ws) =
+    let a = dispatchOf count w last in
+    let rest = refused-left-out count (givenBack last a) ws in
+    by-test (isAccepted a) (λ t. simp t (ap (λ (r : List Dispatched). a ∷ r) rest))
+    (λ t. simp t (rest ∙ ap (λ (l : ℕ). ticks count l (acceptedOf count (givenBack last a) ws)) (refused-keeps last a t)))
