@@ -1,7 +1,7 @@
 -- R-7: on a sound channel the scan of the counts ends inside, and counts stay within the size of the ring. Assumes nothing.
 use mathlib.Core.Path.{_≡_, sym, ap}
 use mathlib.Core.Logic.{_⊎_, ⊎-elim}
-use Prim.Native.Nat.{ℕ, zero, suc, _+_, _≤_, _<_}
+use Prim.Native.Nat.{ℕ, zero, suc, _≤_, _<_}
 use native.Mathlib.Numerals.{add-one}
 use native.Mathlib.Omega.{arith}
 use lib.Dec.{eqb}
@@ -13,7 +13,7 @@ use Rattle.laws.proofs.Counting.{occ-le, occ-entry}
 use Rattle.laws.proofs.Tests.{by-test}
 use Rattle.model.specs.Ring.{ChannelFloor, entries, oldest, pushIn, skipOf}
 use Rattle.model.specs.Sound.{Sound}
-use Rattle.model.specs.DeadBranches.{passedBefore, ReachesAt, rankOf, ScanEnds, CountsWithin}
+use Rattle.model.specs.DeadBranches.{passedBefore, rankOf, ScanEnds, CountsWithin}
 use Rattle.model.proofs.Rank.{under, under-zero, under-more, reached}
 use Rattle.model.proofs.ChannelRank.{length-entries, under-top, skip-within}
 use Rattle.model.proofs.SoundRings.{sound-push}
