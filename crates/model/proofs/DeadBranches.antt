@@ -13,7 +13,7 @@ use Rattle.laws.proofs.Counting.{occ-le, occ-entry}
 use Rattle.laws.proofs.Tests.{by-test}
 use Rattle.model.specs.Ring.{ChannelFloor, entries, oldest, pushIn, skipOf}
 use Rattle.model.specs.Sound.{Sound}
-use Rattle.model.specs.DeadBranches.{passedBefore, rankOf, ScanEnds, CountsWithin}
+use Rattle.model.specs.DeadBranches.{passedBefore, rankOf, ScanEnds, CountsStay}
 use Rattle.model.proofs.Rank.{under, under-zero, under-more, reached}
 use Rattle.model.proofs.ChannelRank.{length-entries, under-top, skip-within}
 use Rattle.model.proofs.SoundRings.{sound-push}
@@ -58,7 +58,7 @@ scan-ends R K c k p s w =
 counts-small : {R K : ℕ} (c : ChannelFloor) → Sound R K c → (x : ℕ) → x < K → getD (c .counts) x 0 ≤ R
 counts-small c s x h = omega (arith, s .recount x h, occ-le x (entries c), length-entries c s, s .filled-within)
 
-pub counts-within : (R K : ℕ) (c : ChannelFloor) → Sound R K c → CountsWithin R K c
+pub counts-within : CountsStay
 counts-within R K c s =
     record {
       before = counts-small c s;

@@ -1,5 +1,5 @@
--- R-7, "Dead branches out of the quartile", stated in three parts: why they are dead here, for a ring of R places (250) and K bins (280),
--- and the third in SameAnswers.antt. The words in quotes are document 02's. The proofs are `scan-ends` and `counts-within` in
+-- R-7, "Dead branches out of the quartile", stated: (1) and (2), why they are dead, for a ring of R places (250) and K bins (280); (3), that
+-- answers stay equal, is in SameAnswers.antt. The words in quotes are document 02's. The proofs are `scan-ends` and `counts-within` in
 -- proofs/DeadBranches.antt.
 use mathlib.Core.Path.{_≡_}
 use mathlib.Core.Bool.{Bool}
@@ -34,8 +34,12 @@ ScanEnds =
 
 -- ---- (2) "no count leaves 0 to 250"
 
+-- before a push and after it
 pub record CountsWithin (R K : ℕ) (c : ChannelFloor) : Type 0 where
   pub before : (x : ℕ) → x < K → getD (c .counts) x 0 ≤ R
   pub after : (quiet : Bool) (b : ℕ) → b < K → (x : ℕ) → x < K → getD (pushIn R quiet c b .counts) x 0 ≤ R
   -- the count that an eviction lowers
   pub lowered : c .filled ≡ R → 1 ≤ getD (c .counts) (oldest c) 0
+
+abbrev pub CountsStay : Type 0
+CountsStay = (R K : ℕ) (c : ChannelFloor) → Sound R K c → CountsWithin R K c

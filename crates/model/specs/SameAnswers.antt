@@ -1,4 +1,4 @@
--- R-7, its third part: the dead branches are out "with answers equal on every sound store". The proof is `same-answers` in
+-- R-7 (3): the dead branches are out "with answers equal on every sound store". The proof is `same-answers` in
 -- proofs/SameAnswers.antt.
 use mathlib.Core.Path.{_≡_}
 use mathlib.Core.Bool.{Bool}
