@@ -152,14 +152,14 @@ uint16_t wolfcloak_ema_rise(const uint16_t *bank, size_t bank_len, const double 
 /* ---- several band segments, 1 to 8, each with a bank and a gate of its own, on one processor ---- */
 
 /*
- * One tick: names the segment whose hop is heard next. Bit i of waiting is 1 where segment i has a hop waiting. The named one is the first
- * of these after the last served, going round; so a segment that is waiting at count ticks in a row is served in one of them, whatever the
- * others do.
+ * One tick: names the segment whose hop is heard next. Bit i of waiting is 1 where segment i has a hop waiting. The named one is
+ * the first of these after the last served, going round; so a segment that is waiting at count ticks in a row is served in one of
+ * them, whatever the others do.
  *
  * The caller keeps one number for all segments, last, which is count - 1 at first, so that segment 0 comes first. At each tick it
  *   - sets the bit of each segment that has a hop waiting, and hands in the same count and the number that the tick before left;
- *   - where the answer is 0: makes the bank update and the gate update of segment *last with its hop, on that segment's stores; the hop waits no
- *     longer, and if it is refused there it counts as served all the same;
+ *   - where the answer is 0: makes the bank update and the gate update of segment *last with its hop, on that segment's stores;
+ *     the hop waits no longer, and if it is refused there it counts as served all the same;
  *   - where the answer is WOLFCLOAK_NONE_WAITING: has nothing to do, and *last is what it was.
  *
  * Refuses with 14, also where none is waiting: count outside 1..8, a set bit numbered count or more, or *last not below count.

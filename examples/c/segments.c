@@ -1,6 +1,6 @@
 /*
- * Three band segments on one processor, each with a bank and a gate of its own n, windows and levels, fed from one loop: at each tick
- * wolfcloak_dispatch names the segment whose hop is heard. Nothing in it divides.
+ * Three band segments on one processor, each with a bank and a gate of its own n, windows and levels, fed from one loop: at each
+ * tick wolfcloak_dispatch names the segment whose hop is heard. Nothing in it divides.
  */
 #include <math.h>
 #include <stdint.h>
@@ -120,7 +120,7 @@ int main(void)
     for (int i = 0; i < SEGMENTS; i++)
         make(&segments[i]);
 
-    /* A hop of each segment comes with every fourth tick. Of three segments each is served within three ticks, so none comes too soon. */
+    /* With every fourth tick comes a hop of each segment. Of three each is served within three ticks, so none comes too soon. */
     for (long tick = 0; tick < TICKS; tick++) {
         uint8_t waiting = 0;
         for (int i = 0; i < SEGMENTS; i++) {

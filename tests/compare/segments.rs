@@ -1,5 +1,5 @@
-// the dispatcher beside document 02's words in plain Rust: every count, byte and last served; then long runs of ticks, the fairness
-// counted.
+// the dispatcher beside document 02's words in plain Rust: every count, byte and last served; then long runs of ticks, the
+// fairness counted.
 use crate::numbers::Rng;
 use crate::tally::Tally;
 use crate::wolfcloak::dispatch;
@@ -45,8 +45,8 @@ pub fn all_ticks(t: &mut Tally) {
     t.check(answers[..2] == [3550, 36], format_args!("dispatch: served {}, none waiting {}", answers[0], answers[1]));
 }
 
-/// Runs of ticks from every last served, refused ones among them, bits that are rare, even and common by turns. No segment is waiting at
-/// `count` accepted ticks in a row and served in none of them; and some wait one fewer, so that the bound can't be lowered.
+/// Runs of ticks from every last served, refused ones among them, bits that are rare, even and common by turns. No segment is
+/// waiting at `count` accepted ticks in a row and served in none of them; some wait one fewer: the bound is sharp.
 pub fn fair_runs(t: &mut Tally, rng: &mut Rng) {
     for count in 1..=8 {
         let segments = ((1u16 << count) - 1) as u8;
