@@ -21,3 +21,7 @@ pub mod Calls
 pub mod Made
 pub mod Demand3
 pub mod Sets
+pub mod BinOrder
+pub mod LouderRings
+pub mod Louder
+pub mod LouderCases

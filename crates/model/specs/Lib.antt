@@ -18,3 +18,4 @@ pub mod Reach
 pub mod Demand3
 pub mod Sets
 pub mod Exports
+pub mod Louder
