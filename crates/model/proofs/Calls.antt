@@ -1,5 +1,6 @@
 -- Calls on the stores of a sound bank and a sound gate: they stay sound, a list of calls is its accepted bank updates on the bank and its
--- accepted gate updates on the gate, and what is refused hangs on the bank's n and phase, the gate's n and the arguments. Assumes nothing.
+-- accepted gate updates on the gate, and what is refused hangs on the bank's n and phase, the gate's n and the arguments. What is said of
+-- the bank alone asks nothing of the gate. Assumes nothing.
 use mathlib.Core.Path.{_≡_, refl, sym, ap, ap₂, _∙_, subst}
 use mathlib.Core.List.{List, [], _∷_, _++_, map}
 use mathlib.Core.Bool.{_&&_, _||_}

@@ -14,7 +14,7 @@ use Rattle.model.specs.Bank.{FloorBank, Hop, freshChannel, freshBank, ch
 use Rattle.model.specs.Readings.{rawAt}
 use Rattle.model.specs.GoodBank.{Good}
 use Rattle.model.specs.Demand3.{bankHops, made}
-use Rattle.model.specs.Louder.{AtLeast, Higher, LouderHigher, LouderAmong}
+use Rattle.model.specs.Louder.{HopAtLeast, AtLeast, Higher, LouderHigher, LouderAmong}
 use Rattle.model.proofs.FreshBanks.{good-slow, good-step, channel-slow}
 use Rattle.model.proofs.SettledFloors.{runBank, n-step}
 use Rattle.model.proofs.Made.{good-bank, bank-hears}
@@ -39,10 +39,6 @@ fresh-quieter n =
       raw = λ k h. rw (getD-replicate n k histMin f0 h) bottom-itself;
     }
 
--- a hop of each, no dB of the first above the second's
-abbrev pub Quiet : ℕ → Hop → Hop → Type 0
-Quiet n h i = (k : ℕ) → k < n → le (getD (h .db) k f0) (getD (i .db) k f0) ≡ true
-
 fast-quieter : (b d : FloorBank) (h i : Hop) → Quieter b d → Quieter (fastStep b h) (fastStep d i)
 unfolding fastStep
 fast-quieter b d h i o =
@@ -52,7 +48,7 @@ raw-slow : (b : FloorBank) (h : Hop) (k : ℕ) → k < b .n → rawAt (slowStep 
 unfolding slowStep rawFloors
 raw-slow b h k l = getD-tab (b .n) (λ k. rawFloor (getD (chansAfter b (seedsAfter b (h .db)) (h .db)) k freshChannel)) k f0 l
 
-slow-quieter : (b d : FloorBank) (h i : Hop) → Good b → Quieter b d → Quiet (b .n) h i → Quieter (slowStep b h) (slowStep d i)
+slow-quieter : (b d : FloorBank) (h i : Hop) → Good b → Quieter b d → HopAtLeast (b .n) h i → Quieter (slowStep b h) (slowStep d i)
 slow-quieter b d h i g o q =
     record {
       same-n = (unfold slowStep in o .same-n);
@@ -72,7 +68,7 @@ slow-quieter b d h i g o q =
         (louder-bin (getD (h .db) k f0) (getD (i .db) k f0) (q k l)))
 
 -- both are slow, or neither
-step-quieter : (b d : FloorBank) (h i : Hop) → Good b → Quieter b d → Quiet (b .n) h i → Quieter (bankStep b h) (bankStep d i)
+step-quieter : (b d : FloorBank) (h i : Hop) → Good b → Quieter b d → HopAtLeast (b .n) h i → Quieter (bankStep b h) (bankStep d i)
 unfolding bankStep
 step-quieter b d h i g o q = subst (λ (p : ℕ). Quieter (stepAt (b .phase) b h) (stepAt p d i)) (o .same-phase) (go (b .phase))
   where

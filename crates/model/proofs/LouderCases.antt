@@ -21,11 +21,10 @@ use Rattle.model.specs.Bench.{minus}
 use Rattle.model.specs.Refusals.{makeRefusal, garbled}
 use Rattle.model.specs.Calls.{bankNew}
 use Rattle.model.specs.Demand3.{Call, bank, Stores, answer, left, arguments, bankHop, bankHops, bankIn, Making, newBank, made}
-use Rattle.model.specs.Louder.{AtLeast, Louder, after, Somewhere, Rises, CanRise, Falls, CanFall}
+use Rattle.model.specs.Louder.{HopAtLeast, AtLeast, Louder, after, Somewhere, Rises, CanRise, Falls, CanFall}
 use Rattle.model.proofs.SettledFloors.{runBank, n-run}
 use Rattle.model.proofs.Calls.{SoundBank, left-bank, bank-left, refuse, bank-answer}
 use Rattle.model.proofs.Made.{bank-made, sound-bank-made, bank-hears}
-use Rattle.model.proofs.Louder.{Quiet}
 
 -- ---- one channel and no gate
 
@@ -86,7 +85,7 @@ length-calls : (m : ℕ) (x y : Float) → length (calls m x y) ≡ suc m
 length-calls zero x y = refl
 length-calls (suc m) x y = ap suc (length-calls m x y)
 
-one-quiet : (x y : Float) → le x y ≡ true → Quiet 1 (one x) (one y)
+one-quiet : (x y : Float) → le x y ≡ true → HopAtLeast 1 (one x) (one y)
 one-quiet x y h zero l = h
 one-quiet x y h (suc k) l = absurd (omega arith)
 

@@ -14,11 +14,15 @@ use Rattle.model.specs.Demand3.{Call, Stores, leftBy, bankHops, bankUpda
 
 -- ---- two lists
 
--- no dB of the second below that of the first, hop by hop and channel by channel of n; `le` holds of no NaN (`le-numbers`, laws, Rounding)
+-- each dB of hop i at least that of hop h, of n channels; `le` holds of no NaN (`le-numbers` in Rounding of laws)
+abbrev pub HopAtLeast : ℕ → Hop → Hop → Type 0
+HopAtLeast n h i = (c : ℕ) → c < n → le (getD (h .db) c f0) (getD (i .db) c f0) ≡ true
+
+-- hop by hop
 abbrev pub AtLeast : ℕ → List Hop → List Hop → Type 0
 AtLeast n [] is = Unit {0}
 AtLeast n (h ∷ hs) [] = Unit {0}
-AtLeast n (h ∷ hs) (i ∷ is) = ((c : ℕ) → c < n → le (getD (h .db) c f0) (getD (i .db) c f0) ≡ true) × AtLeast n hs is
+AtLeast n (h ∷ hs) (i ∷ is) = HopAtLeast n h i × AtLeast n hs is
 
 -- "lists of bank updates .. every update accepted": as many accepted bank updates as calls. Held or not, and with any powers
 abbrev pub AllAccepted : Stores → List Call → Type 0
