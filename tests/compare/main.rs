@@ -14,6 +14,7 @@ mod numbers;
 mod rules;
 mod runs;
 mod sample;
+mod segments;
 mod tally;
 mod wolfcloak;
 
@@ -26,8 +27,8 @@ use tally::Tally;
 
 const SIZES: [usize; 13] = [1, 2, 3, 4, 5, 6, 31, 32, 33, 64, 65, 511, 512];
 
-/// Job i: the making of banks and gates, two histories, two lists of which one is louder, arbitrary stores of some size, or a run of some
-/// size and plan.
+/// Job i: the making of banks and gates and the dispatcher, two histories, two lists of which
+/// one is louder, arbitrary stores of some size, or a run of some size and plan.
 fn job(i: usize, seed: u64, alone: &mut Alone) -> Option<Tally> {
     let mut t = Tally::default();
     let mut rng = Rng(seed ^ (i as u64) << 32);
@@ -37,6 +38,8 @@ fn job(i: usize, seed: u64, alone: &mut Alone) -> Option<Tally> {
         faults::any_n(&mut t, &mut rng);
         faults::any_settings(&mut t, &mut rng);
         history::no_call_too_many(&mut t);
+        segments::all_ticks(&mut t);
+        segments::fair_runs(&mut t, &mut rng);
         louder::no_more(&mut t);
     } else if i <= histories {
         history::any_histories(&mut t, &SETTINGS[i - 1], &mut rng);
