@@ -14,6 +14,9 @@ pub mod Bench
 pub mod Sound
 pub mod GoodBank
 pub mod GoodGate
+pub mod DeadBranches
+pub mod Carried
+pub mod SameAnswers
 pub mod Reach
 pub mod Worst
 pub mod WorstCalls
@@ -21,3 +24,5 @@ pub mod GoodWorst
 pub mod Demand3
 pub mod Sets
 pub mod Exports
+pub mod Segments
+pub mod Louder
