@@ -13,6 +13,7 @@ pub mod WindowStores
 pub mod GateStores
 pub mod GoodGates
 pub mod FreshGates
+pub mod Pairs
 pub mod Quartiles
 pub mod SettledFloors
 pub mod Windows
@@ -21,3 +22,4 @@ pub mod Calls
 pub mod Made
 pub mod Demand3
 pub mod Sets
+pub mod Remembered

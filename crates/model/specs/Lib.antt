@@ -17,4 +17,6 @@ pub mod GoodGate
 pub mod Reach
 pub mod Demand3
 pub mod Sets
+pub mod Anew
+pub mod Remembered
 pub mod Exports
