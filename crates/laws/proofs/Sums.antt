@@ -1,9 +1,9 @@
 -- Sums with floats that compare equal are equal, but for the sign of a zero: a float may be written in several ways, and zeros of either
 -- sign compare equal. Assumes nothing.
-use mathlib.Core.Path.{_≡_, refl, sym, ap, ap₂, subst, _∙_}
+use mathlib.Core.Path.{_≡_, refl, sym, ap, ap₂, _∙_}
 use mathlib.Core.Bool.{Bool, true, false, Bool·beq, cond, _&&_, _||_}
 use Prim.Native.Nat.{ℕ, _+_, _-_, _*_, _<_}
-use native.Mathlib.Nat.{zero-add, sub-zero, zero-mul, add-mul, mul-comm, mul-assoc, mul-left-comm, mul-mul-mul-comm, mul-sub, mul-pos, mul-lt-mul-of-pos-right, lt-of-mul-lt-mul-right, eq-of-mul-eq-mul-right}
+use native.Mathlib.Nat.{zero-add, sub-zero, zero-mul, add-mul, mul-comm, mul-mul-mul-comm, mul-sub, mul-pos, mul-lt-mul-of-pos-right, lt-of-mul-lt-mul-right, eq-of-mul-eq-mul-right}
 use native.Mathlib.Omega.{arith}
 use lib.Dec.{ltb, eqb}
 use lib.IntN.{ℤ, pos}
@@ -11,7 +11,7 @@ use lib.Count.{trailingZeros}
 use lib.Ieee.{Float, nan, inf, fin, Format, binary32, binary64, up, down, level, span, climb, size, odd, units, round, sum, add, eq}
 use lib.Ieee.Fits.{down-pos}
 use lib.Ieee.Scale.{round-same}
-use borrow.Author.Tests.{eqb-true, eqb-false, ltb-true, ltb-false, lt-ltb, le-ltb}
+use borrow.Author.Tests.{eqb-true, eqb-false, ltb-true, ltb-false, lt-ltb}
 use Rattle.laws.proofs.Tests.{by-test, clash, and-l, and-r}
 
 -- equal, or zeros of whatever signs

@@ -150,10 +150,10 @@ module _ (g : Gate) (s : GoodGate g) where
   size-back j h = length-lookF (g .n) (lookAt g j) (s .look j h) ∙ ap (lookSize (g .n)) (sym (m-back g j h))
 
   -- the smoothed dB and the lengths, before the pairs
-  abbrev front : List Float
+  abbrev pub front : List Float
   front = g .smooth ++ joined (map lookF (g .looks))
 
-  front-long : length front ≡ pairStart (gateU g)
+  pub front-long : length front ≡ pairStart (gateU g)
   front-long =
       omega (
         arith,
@@ -163,7 +163,7 @@ module _ (g : Gate) (s : GoodGate g) where
         run-length (startAt (gateU g)) (sizeAt (gateU g)) (length (g .looks)) (λ i. lookF (lookAt g i)) (starts-meet (gateU g) (length (g .looks))) size-back,
       )
 
-  fronted : gateF g ≡ front ++ (g .used ++ g .threshold)
+  pub fronted : gateF g ≡ front ++ (g .used ++ g .threshold)
   fronted = sym (append-assoc (g .smooth) (joined (map lookF (g .looks))) (g .used ++ g .threshold))
 
   -- the floats of length j

@@ -2,17 +2,16 @@
 -- is the one that works the ladder out each time. Assumes nothing.
 use mathlib.Core.Path.{_≡_, refl, sym, ap, _∙_}
 use mathlib.Core.Bool.{Bool, true, false, not, cond, _&&_, _||_}
-use mathlib.Core.List.{List, []}
-use mathlib.Core.Logic.{_⊎_, inl, inr}
+use mathlib.Core.List.{List}
+use mathlib.Core.Logic.{inl, inr}
 use Prim.Native.Nat.{ℕ, zero, suc, _<_}
-use native.Mathlib.Omega.{arith}
 use lib.Count.{trailingZeros}
 use lib.Dec.{eqb}
 use lib.IntN.{pos}
 use lib.ListN.{getD, getD-replicate}
-use lib.Ieee.{Float, nan, inf, fin, binary64, add, mul, neg, lt, le, eq, ne, isNan, ofInt, ofBits, ofFields, toUnsigned, round, odd, units, size, span, climb}
-use borrow.Author.Tests.{not-false, eq-eqb}
-use Rattle.laws.specs.Lists.{tab, one}
+use lib.Ieee.{Float, nan, inf, fin, binary64, mul, neg, lt, le, eq, ne, isNan, ofInt, ofBits, ofFields, toUnsigned, round, odd, units, size, span, climb}
+use borrow.Author.Tests.{not-false}
+use Rattle.laws.specs.Lists.{one}
 use Rattle.laws.proofs.Sums.{Alike, same, zeros, add-alike}
 use Rattle.laws.proofs.Tabs.{getD-tab, tab-ext}
 use Rattle.laws.proofs.Tests.{by-test, clash}

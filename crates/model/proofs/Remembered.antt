@@ -6,14 +6,13 @@ use Prim.Native.Nat.{ℕ, zero, suc}
 use lib.ListN.{length, getD}
 use lib.Ieee.{Float}
 use Rattle.model.specs.Bank.{FloorBank, Hop}
-use Rattle.model.specs.Refusals.{bankRefusal, updateRefusal}
 use Rattle.model.specs.Stores.{bankOf}
 use Rattle.model.specs.Calls.{bankUpdate}
 use Rattle.model.specs.Gate.{Gate, gateStep, updateStep, holdStep, riseBytes, dropBytes}
 use Rattle.model.specs.GateStores.{gateOf}
 use Rattle.model.specs.GateCalls.{GateHop, gateRefusal, pairRefusal, gateUpdateRefusal, holdRefusal, gateLeaves, marksOf, gateUpdate, gateHold}
 use Rattle.model.specs.GoodGate.{GoodGate}
-use Rattle.model.specs.Demand3.{Call, bank, gate, hold, Stores, step, answer, left, leftBy, arguments, gateHop, bankIn, Making, made, Made}
+use Rattle.model.specs.Demand3.{Call, bank, gate, hold, Stores, step, answer, left, arguments, gateHop, bankIn, Making, made, Made}
 use Rattle.model.specs.Sets.{gateIn, Sound}
 use Rattle.model.specs.Anew.{riseBytesAnew, marksAnew, gateUpdateAnew, gateHoldAnew, leftAnew, seenAnew, allSeenAnew}
 use Rattle.model.specs.Remembered.{PairsTrue, StayTrue, seen, allSeen, AsAnew}

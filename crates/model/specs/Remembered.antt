@@ -5,7 +5,7 @@ use mathlib.Core.List.{List, [], _∷_}
 use mathlib.Core.Logic.{_⊎_}
 use Prim.Native.Nat.{ℕ, _<_}
 use lib.ListN.{getD}
-use lib.Ieee.{Float, nan}
+use lib.Ieee.{nan}
 use Rattle.model.specs.Numbers.{f0}
 use Rattle.model.specs.Calls.{bankUpdate}
 use Rattle.model.specs.Gate.{Gate, thresholdOf}
