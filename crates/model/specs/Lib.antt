@@ -14,9 +14,14 @@ pub mod Bench
 pub mod Sound
 pub mod GoodBank
 pub mod GoodGate
+pub mod DeadBranches
+pub mod Carried
+pub mod SameAnswers
 pub mod Reach
 pub mod Demand3
 pub mod Sets
 pub mod Anew
 pub mod Remembered
 pub mod Exports
+pub mod Segments
+pub mod Louder
