@@ -23,6 +23,7 @@ pub mod Quartiles
 pub mod SettledFloors
 pub mod Windows
 pub mod Rises
+pub mod Carrying
 pub mod Calls
 pub mod Made
 pub mod Demand3

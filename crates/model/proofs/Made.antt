@@ -1,4 +1,4 @@
--- What making leaves where it is not refused: the stores of a fresh bank and a fresh gate, both sound. Assumes nothing.
+-- What making leaves where it is not refused: the stores of a fresh bank, a fresh gate and a fresh store of R-6, all sound. Assumes nothing.
 use mathlib.Core.Path.{_≡_, sym, ap, _∙_, subst}
 use mathlib.Core.Bool.{true, not, _&&_, _||_}
 use mathlib.Core.Logic.{_⊎_, inl, inr}
@@ -23,8 +23,13 @@ use Rattle.model.proofs.GoodGates.{gate-back, gate-passes}
 use Rattle.model.proofs.FreshGates.{good-fresh-gate}
 use Rattle.model.proofs.Reach.{made-fresh}
 use Rattle.model.proofs.SettledFloors.{runBank}
-use Rattle.model.specs.Demand3.{Call, Stores, leftBy, bankHops, bankIn, Making, newBank, newGate, made, Made}
-use Rattle.model.specs.Sets.{gateIn, Sound}
+use Rattle.model.specs.Demand3.{Call, Stores, Lent, leftBy, bankHops, bankIn, Making, newBank, newGate, newWorst, made, Made}
+use Rattle.model.specs.Sets.{gateIn, worstIn, Sound}
+use Rattle.model.specs.Worst.{Worst, freshWorst, worstU, worstF}
+use Rattle.model.specs.GoodWorst.{GoodWorst}
+use Rattle.model.proofs.WorstStores.{worst-back, worst-passes}
+use Rattle.model.proofs.WorstTurns.{good-fresh-worst}
+use Rattle.model.proofs.WorstReach.{worst-made}
 use Rattle.model.proofs.Calls.{SoundBank, bank-run, gate-answer}
 
 -- ---- the gate's settings
@@ -68,18 +73,18 @@ taken k uLen fLen e =
 
 -- ---- a fresh bank, whatever became of the gate
 
-module _ (k : Making) (s : Stores) (e : newBank k s .0 ≡ 0) where
+module _ (k : Making) (p : Lent) (e : newBank k p .0 ≡ 0) where
   pub good-bank : Good (freshBank (k .n))
-  good-bank = let m = made-fresh (s .bu) (s .bf) (k .n) (unfold newBank in e) in good-fresh (k .n) (m .0) (m .1)
+  good-bank = let m = made-fresh (p .stores .bu) (p .stores .bf) (k .n) (unfold newBank in e) in good-fresh (k .n) (m .0) (m .1)
 
-  bank-stores : (newBank k s .1 ≡ bankU (freshBank (k .n))) × (newBank k s .2 ≡ bankF (freshBank (k .n)))
+  bank-stores : (newBank k p .1 ≡ bankU (freshBank (k .n))) × (newBank k p .2 ≡ bankF (freshBank (k .n)))
   unfolding newBank
-  bank-stores = let m = made-fresh (s .bu) (s .bf) (k .n) e in (ap (λ r. r .u) (m .2), ap (λ r. r .f) (m .2))
+  bank-stores = let m = made-fresh (p .stores .bu) (p .stores .bf) (k .n) e in (ap (λ r. r .u) (m .2), ap (λ r. r .f) (m .2))
 
-  pub bank-made : bankIn (made k s) ≡ freshBank (k .n)
+  pub bank-made : bankIn (made k p) ≡ freshBank (k .n)
   bank-made = rw (bank-stores .0, bank-stores .1) (bank-back (freshBank (k .n)) good-bank)
 
-  pub sound-bank-made : SoundBank (made k s)
+  pub sound-bank-made : SoundBank (made k p)
   sound-bank-made =
       record {
         bank-passes = rw (bank-stores .0, bank-stores .1) (passes (freshBank (k .n)) good-bank);
@@ -87,19 +92,19 @@ module _ (k : Making) (s : Stores) (e : newBank k s .0 ≡ 0) where
       }
 
   -- after a list of calls
-  pub bank-hears : (cs : List Call) → bankIn (leftBy (made k s) cs) ≡ runBank (freshBank (k .n)) (bankHops (made k s) cs)
-  bank-hears cs = bank-run cs (made k s) sound-bank-made ∙ ap (λ (b : FloorBank). runBank b (bankHops (made k s) cs)) bank-made
+  pub bank-hears : (cs : List Call) → bankIn (leftBy (made k p) cs) ≡ runBank (freshBank (k .n)) (bankHops (made k p) cs)
+  bank-hears cs = bank-run cs (made k p) sound-bank-made ∙ ap (λ (b : FloorBank). runBank b (bankHops (made k p) cs)) bank-made
 
 -- ---- a fresh set
 
-module _ (k : Making) (s : Stores) (d : Made k s) where
-  refusal : gateMakeRefusal (length (s .gu)) (length (s .gf)) (k .gate-n) (k .on) (k .off) (k .early) (k .lengths) ≡ 0
+module _ (k : Making) (p : Lent) (d : Made k p) where
+  refusal : gateMakeRefusal (length (p .stores .gu)) (length (p .stores .gf)) (k .gate-n) (k .on) (k .off) (k .early) (k .lengths) ≡ 0
   refusal =
-      sym (gate-answer (gateMakeRefusal (length (s .gu)) (length (s .gf)) (k .gate-n) (k .on) (k .off) (k .early) (k .lengths)) (freshGate (settings k)) (s .gu) (s .gf))
+      sym (gate-answer (gateMakeRefusal (length (p .stores .gu)) (length (p .stores .gf)) (k .gate-n) (k .on) (k .off) (k .early) (k .lengths)) (freshGate (settings k)) (p .stores .gu) (p .stores .gf))
       ∙ (unfold newGate gateNew in d .gate)
 
   fits : Taken k
-  fits = taken k (length (s .gu)) (length (s .gf)) refusal
+  fits = taken k (length (p .stores .gu)) (length (p .stores .gf)) refusal
 
   pub lengths-good : goodLengths (k .lengths) ≡ true
   lengths-good = fits .lengths
@@ -107,22 +112,41 @@ module _ (k : Making) (s : Stores) (d : Made k s) where
   good-gate : GoodGate (freshGate (settings k))
   good-gate = let t = fits in (unfold settingsOf in good-fresh-gate (settings k) (t .low) (t .high) (t .on) (t .off) (t .early) (t .lengths))
 
-  gate-stores : (newGate k s .1 ≡ gateU (freshGate (settings k))) × (newGate k s .2 ≡ gateF (freshGate (settings k)))
+  gate-stores : (newGate k p .1 ≡ gateU (freshGate (settings k))) × (newGate k p .2 ≡ gateF (freshGate (settings k)))
   unfolding newGate gateNew
   gate-stores = (
-    ap (λ (r : ℕ). gateLeaves r (freshGate (settings k)) (s .gu) (s .gf) .1) refusal,
-    ap (λ (r : ℕ). gateLeaves r (freshGate (settings k)) (s .gu) (s .gf) .2) refusal,
+    ap (λ (r : ℕ). gateLeaves r (freshGate (settings k)) (p .stores .gu) (p .stores .gf) .1) refusal,
+    ap (λ (r : ℕ). gateLeaves r (freshGate (settings k)) (p .stores .gu) (p .stores .gf) .2) refusal,
   )
 
-  pub gate-made : gateIn (made k s) ≡ freshGate (settings k)
+  pub gate-made : gateIn (made k p) ≡ freshGate (settings k)
   gate-made = rw (gate-stores .0, gate-stores .1) (gate-back (freshGate (settings k)) good-gate)
 
-  pub sound-made : Sound (made k s)
+  good-worst : GoodWorst (freshWorst (k .n) (p .W))
+  good-worst =
+      let m = worst-made (p .stores .wu) (p .stores .wf) (k .n) (p .W) (unfold newWorst in d .worst) in
+      good-fresh-worst (k .n) (p .W) (m .0) (m .1) (m .2) (m .3)
+
+  worst-stores : (newWorst k p .1 ≡ worstU (freshWorst (k .n) (p .W))) × (newWorst k p .2 ≡ worstF (freshWorst (k .n) (p .W)))
+  unfolding newWorst
+  worst-stores =
+      let m = worst-made (p .stores .wu) (p .stores .wf) (k .n) (p .W) (d .worst) in
+      (ap (λ r. r .u) (m .4), ap (λ r. r .f) (m .4))
+
+  store-made : worstIn (made k p) ≡ freshWorst (k .n) (p .W)
+  store-made = rw (worst-stores .0, worst-stores .1) (worst-back (freshWorst (k .n) (p .W)) good-worst)
+
+  pub sound-made : Sound (made k p)
   sound-made =
-      let b = sound-bank-made k s (d .bank) in
+      let b = sound-bank-made k p (d .bank) in
       record {
         bank-passes = b .bank-passes;
         bank-good = b .bank-good;
         gate-passes = rw (gate-stores .0, gate-stores .1) (gate-passes (freshGate (settings k)) good-gate);
         gate-good = subst GoodGate (sym gate-made) good-gate;
+        worst-passes = rw (worst-stores .0, worst-stores .1) (worst-passes (freshWorst (k .n) (p .W)) good-worst);
+        worst-good = subst GoodWorst (sym store-made) good-worst;
+        worst-n =
+            ap (λ (w : Worst). w .n) store-made
+            ∙ (unfold freshWorst freshBank in sym (ap (λ (b : FloorBank). b .n) (bank-made k p (d .bank))));
       }
