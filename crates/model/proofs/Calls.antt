@@ -72,18 +72,28 @@ pub record SoundBank (s : Stores) : Type 0 where
 pub sound-bank : (s : Stores) → Sound s → SoundBank s
 sound-bank s v = record { bank-passes = v .bank-passes; bank-good = v .bank-good }
 
+-- of R-6's store, whatever the others hold
+pub record SoundWorst (s : Stores) : Type 0 where
+  pub worst-passes : worstRefusal (s .wu) (s .wf) ≡ 0
+  pub worst-good : GoodWorst (worstIn s)
+
+pub sound-worst : (s : Stores) → Sound s → SoundWorst s
+sound-worst s v = record { worst-passes = v .worst-passes; worst-good = v .worst-good }
+
+pub record LeftWorst (s : Stores) (c : Call) : Type 0 where
+  pub worst-passes : worstRefusal (left s c .wu) (left s c .wf) ≡ 0
+  pub worst-is : worstIn (left s c) ≡ worstAfter (answer s c) (bankIn s) (worstIn s) (arguments c)
+
 pub record LeftBank (s : Stores) (c : Call) : Type 0 where
   pub bank-passes : bankRefusal (left s c .bu) (left s c .bf) ≡ 0
   pub bank-is : bankIn (left s c) ≡ runBank (bankIn s) (bankHop (answer s c) (arguments c))
 
--- of all
+-- of bank and gate
 pub record Left (s : Stores) (c : Call) : Type 0 where
   pub bank-passes : bankRefusal (left s c .bu) (left s c .bf) ≡ 0
   pub bank-is : bankIn (left s c) ≡ runBank (bankIn s) (bankHop (answer s c) (arguments c))
   pub gate-passes : gateRefusal (left s c .gu) (left s c .gf) ≡ 0
   pub gate-is : gateIn (left s c) ≡ gateAfter (answer s c) (gateIn s) (bankIn s) (arguments c)
-  pub worst-passes : worstRefusal (left s c .wu) (left s c .wf) ≡ 0
-  pub worst-is : worstIn (left s c) ≡ worstAfter (answer s c) (bankIn s) (worstIn s) (arguments c)
 
 -- whatever a call answers: no bank update on the bank, nothing on the gate by a bank update, nothing on R-6's store by any other
 no-bank : (r : ℕ) (h : GateHop) (i j : ℕ) → bankHop r (gate h i j) ≡ []
@@ -142,18 +152,25 @@ left-bank s v (gate h rise drop) =
 left-bank s v (hold rise drop) =
     record { bank-passes = v .bank-passes; bank-is = sym (ap (runBank (bankIn s)) (no-bank-hold (answer s (hold rise drop)) _ _)) }
 
+pub left-worst : (s : Stores) → SoundWorst s → (c : Call) → LeftWorst s c
+unfolding step
+left-worst s v (bank c h) =
+    let w = leaves-worst (s .bu) (s .bf) (s .wu) (s .wf) h c (v .worst-passes) (v .worst-good) in
+    record { worst-passes = w .0; worst-is = w .1 }
+left-worst s v (gate h rise drop) =
+    record { worst-passes = v .worst-passes; worst-is = sym (no-worst (answer s (gate h rise drop)) (bankIn s) (worstIn s) h _ _) }
+left-worst s v (hold rise drop) =
+    record { worst-passes = v .worst-passes; worst-is = sym (no-worst-hold (answer s (hold rise drop)) (bankIn s) (worstIn s) _ _) }
+
 pub left-is : (s : Stores) → Sound s → (c : Call) → Left s c
 unfolding step gateUpdate gateHold
 left-is s v (bank c h) =
     let b = left-bank s (sound-bank s v) (bank c h) in
-    let w = leaves-worst (s .bu) (s .bf) (s .wu) (s .wf) h c (v .worst-passes) (v .worst-good) in
     record {
       bank-passes = b .bank-passes;
       bank-is = b .bank-is;
       gate-passes = v .gate-passes;
       gate-is = sym (no-gate (answer s (bank c h)) (gateIn s) (bankIn s) c h);
-      worst-passes = w .0;
-      worst-is = w .1;
     }
 left-is s v (gate h rise drop) =
     let b = left-bank s (sound-bank s v) (gate h rise drop) in
@@ -164,8 +181,6 @@ left-is s v (gate h rise drop) =
       bank-is = b .bank-is;
       gate-passes = g .0;
       gate-is = g .1;
-      worst-passes = v .worst-passes;
-      worst-is = sym (no-worst (answer s (gate h rise drop)) (bankIn s) (worstIn s) h _ _);
     }
 left-is s v (hold rise drop) =
     let b = left-bank s (sound-bank s v) (hold rise drop) in
@@ -176,8 +191,6 @@ left-is s v (hold rise drop) =
       bank-is = b .bank-is;
       gate-passes = g .0;
       gate-is = g .1;
-      worst-passes = v .worst-passes;
-      worst-is = sym (no-worst-hold (answer s (hold rise drop)) (bankIn s) (worstIn s) _ _);
     }
 
 pub bank-left : (s : Stores) (c : Call) → SoundBank s → SoundBank (left s c)
@@ -188,23 +201,34 @@ bank-left s c v =
       bank-good = subst Good (sym (l .bank-is)) (good-run (bankHop (answer s c) (arguments c)) (bankIn s) (v .bank-good));
     }
 
+pub worst-left : (s : Stores) (c : Call) → SoundWorst s → SoundWorst (left s c)
+worst-left s c v =
+    let l = left-worst s v c in
+    record {
+      worst-passes = l .worst-passes;
+      worst-good = subst GoodWorst (sym (l .worst-is)) (good-worst-after (answer s c) (bankIn s) (worstIn s) (arguments c) (v .worst-good));
+    }
+
+-- both stay as long as they are
+pub n-left : (s : Stores) (c : Call) → SoundBank s → bankIn (left s c) .n ≡ bankIn s .n
+n-left s c v = ap (λ (b : FloorBank). b .n) (left-bank s v c .bank-is) ∙ n-run (bankHop (answer s c) (arguments c)) (bankIn s)
+
+pub worst-n-left : (s : Stores) (c : Call) → SoundWorst s → worstIn (left s c) .n ≡ worstIn s .n
+worst-n-left s c v = ap (λ (w : Worst). w .n) (left-worst s v c .worst-is) ∙ size-worst-after (answer s c) (bankIn s) (worstIn s) (arguments c)
+
 pub sound-left : (s : Stores) (c : Call) → Sound s → Sound (left s c)
 sound-left s c v =
     let b = bank-left s c (sound-bank s v) in
+    let w = worst-left s c (sound-worst s v) in
     let l = left-is s v c in
     record {
       bank-passes = b .bank-passes;
       bank-good = b .bank-good;
       gate-passes = l .gate-passes;
       gate-good = subst GoodGate (sym (l .gate-is)) (good-after (answer s c) (gateIn s) (bankIn s) (arguments c) (v .gate-good));
-      worst-passes = l .worst-passes;
-      worst-good = subst GoodWorst (sym (l .worst-is)) (good-worst-after (answer s c) (bankIn s) (worstIn s) (arguments c) (v .worst-good));
-      worst-n =
-          ap (λ (w : Worst). w .n) (l .worst-is)
-          ∙ size-worst-after (answer s c) (bankIn s) (worstIn s) (arguments c)
-          ∙ v .worst-n
-          ∙ sym (n-run (bankHop (answer s c) (arguments c)) (bankIn s))
-          ∙ sym (ap (λ (b : FloorBank). b .n) (l .bank-is));
+      worst-passes = w .worst-passes;
+      worst-good = w .worst-good;
+      worst-n = worst-n-left s c (sound-worst s v) ∙ v .worst-n ∙ sym (n-left s c (sound-bank s v));
     }
 
 pub true-left : (s : Stores) (c : Call) → Sound s → PairsTrue (gateIn s) → PairsTrue (gateIn (left s c))

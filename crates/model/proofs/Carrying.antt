@@ -37,6 +37,11 @@ unfolding floorsTaken
 size-at zero b w = refl
 size-at (suc p) b w = refl
 
+span-at : (p : ℕ) (b : FloorBank) (w : Worst) → takenAt p b w .W ≡ w .W
+unfolding floorsTaken
+span-at zero b w = refl
+span-at (suc p) b w = refl
+
 -- the store after a call, by its answer
 abbrev pub worstAfter : ℕ → FloorBank → Worst → Arguments → Worst
 worstAfter zero b w (bank true h) = worstStep b h w
@@ -60,7 +65,18 @@ size-worst-after zero b w (gate h rise drop) = refl
 size-worst-after zero b w (hold rise drop) = refl
 size-worst-after (suc r) b w c = refl
 
+pub span-worst-after : (r : ℕ) (b : FloorBank) (w : Worst) (c : Arguments) → worstAfter r b w c .W ≡ w .W
+unfolding worstStep
+span-worst-after zero b w (bank true h) = span-at (b .phase) (bankStep b h) w
+span-worst-after zero b w (bank false h) = refl
+span-worst-after zero b w (gate h rise drop) = refl
+span-worst-after zero b w (hold rise drop) = refl
+span-worst-after (suc r) b w c = refl
+
 -- ---- what an update leaves
+
+abbrev pub Triple : Type 0
+Triple = ℕ × List ℕ × List Float
 
 module _ (u : List ℕ) (f : List Float) (wu : List ℕ) (wf : List Float) (h : Hop) where
   abbrev b : FloorBank
@@ -133,3 +149,16 @@ module _ (u : List ℕ) (f : List Float) (wu : List ℕ) (wf : List Float) (h : 
   unfolding worstUpdate
   answer-same false p q e = answer-alone
   answer-same true p q e = beside-answer (carryRefusal u f wu wf (h .db) (h .power)) ∙ carry-passes p q e
+
+  -- nor does it change what the bank is left with
+  leave-same : (r : ℕ) → let a = bothLeave r (bankStep b h) (worstStep b h w) u f wu wf in _≡_ {A = Triple} (a .0, a .1, a .2) (leaves r (bankStep b h) u f)
+  leave-same zero = refl
+  leave-same (suc r) = refl
+
+  pub bank-same : (c : Bool) → bankRefusal u f ≡ 0 → worstRefusal wu wf ≡ 0 → w .n ≡ b .n
+      → let a = updateIf c u f wu wf h in _≡_ {A = Triple} (a .0, a .1, a .2) (bankUpdate u f h)
+  unfolding bankUpdate worstUpdate
+  bank-same false p q e = refl
+  bank-same true p q e =
+      leave-same (carryRefusal u f wu wf (h .db) (h .power))
+      ∙ ap (λ (r : ℕ). leaves r (bankStep b h) u f) (carry-passes p q e)

@@ -13,7 +13,6 @@ pub mod SameAnswers
 pub mod Reach
 pub mod WorstStores
 pub mod WorstTurns
-pub mod WorstReach
 pub mod WindowStores
 pub mod GateStores
 pub mod GoodGates
@@ -34,3 +33,4 @@ pub mod BinOrder
 pub mod LouderRings
 pub mod Louder
 pub mod LouderCases
+pub mod WorstOfLate

@@ -1,12 +1,13 @@
 -- What making leaves where it is not refused: the stores of a fresh bank, a fresh gate and a fresh store of R-6, all sound. Assumes nothing.
-use mathlib.Core.Path.{_≡_, sym, ap, _∙_, subst}
+use mathlib.Core.Path.{_≡_, refl, sym, ap, _∙_, subst}
 use mathlib.Core.Bool.{true, not, _&&_, _||_}
 use mathlib.Core.Logic.{_⊎_, inl, inr}
 use mathlib.Core.List.{List}
-use Prim.Native.Nat.{ℕ, _≤_}
+use Prim.Native.Nat.{ℕ, zero, suc, _≤_}
 use native.Mathlib.Omega.{arith}
 use lib.ListN.{length}
 use lib.IntN.{ℤ, pos, negsuc}
+use lib.Ieee.{Float}
 use borrow.Author.Tests.{not-false, leb-true, eqb-true}
 use Rattle.laws.specs.Tests.{within}
 use Rattle.laws.proofs.Tests.{by-test, passed, within-of, and-l, and-r, clash}
@@ -26,11 +27,11 @@ use Rattle.model.proofs.SettledFloors.{runBank}
 use Rattle.model.specs.Demand3.{Call, Stores, Lent, leftBy, bankHops, bankIn, Making, newBank, newGate, newWorst, made, Made}
 use Rattle.model.specs.Sets.{gateIn, worstIn, Sound}
 use Rattle.model.specs.Worst.{Worst, freshWorst, worstU, worstF}
+use Rattle.model.specs.WorstCalls.{worstMakeRefusal, worstLeaves, worstNew}
 use Rattle.model.specs.GoodWorst.{GoodWorst}
 use Rattle.model.proofs.WorstStores.{worst-back, worst-passes}
 use Rattle.model.proofs.WorstTurns.{good-fresh-worst}
-use Rattle.model.proofs.WorstReach.{worst-made}
-use Rattle.model.proofs.Calls.{SoundBank, bank-run, gate-answer}
+use Rattle.model.proofs.Calls.{SoundBank, SoundWorst, bank-run, gate-answer}
 
 -- ---- the gate's settings
 
@@ -95,6 +96,40 @@ module _ (k : Making) (p : Lent) (e : newBank k p .0 ≡ 0) where
   pub bank-hears : (cs : List Call) → bankIn (leftBy (made k p) cs) ≡ runBank (freshBank (k .n)) (bankHops (made k p) cs)
   bank-hears cs = bank-run cs (made k p) sound-bank-made ∙ ap (λ (b : FloorBank). runBank b (bankHops (made k p) cs)) bank-made
 
+-- ---- a fresh store of R-6, whatever became of the others
+
+module _ (k : Making) (p : Lent) (e : newWorst k p .0 ≡ 0) where
+  -- what making leaves where it does not refuse
+  stored-fresh : (r : ℕ) (w : Worst) (u : List ℕ) (f : List Float) → worstLeaves r w u f .0 ≡ 0
+      → (r ≡ 0) × (worstLeaves r w u f .1 ≡ worstU w) × (worstLeaves r w u f .2 ≡ worstF w)
+  stored-fresh zero w u f h = (refl, refl, refl)
+  stored-fresh (suc r) w u f h = absurd (omega arith)
+
+  fresh-store : (worstMakeRefusal (length (p .stores .wu)) (length (p .stores .wf)) (k .n) (p .W) ≡ 0)
+      × (newWorst k p .1 ≡ worstU (freshWorst (k .n) (p .W))) × (newWorst k p .2 ≡ worstF (freshWorst (k .n) (p .W)))
+  unfolding newWorst worstNew
+  fresh-store =
+      stored-fresh (worstMakeRefusal (length (p .stores .wu)) (length (p .stores .wf)) (k .n) (p .W)) (freshWorst (k .n) (p .W)) (p .stores .wu) (p .stores .wf) e
+
+  good-worst : GoodWorst (freshWorst (k .n) (p .W))
+  unfolding worstMakeRefusal
+  good-worst =
+      let a = passed (not (within 1 512 (k .n))) 1 _ (omega arith) (fresh-store .0) in
+      let b = passed (not (within 1 600 (p .W))) 12 _ (omega arith) (a .1) in
+      let size = within-of 1 512 (k .n) (not-false (within 1 512 (k .n)) (a .0)) in
+      let span = within-of 1 600 (p .W) (not-false (within 1 600 (p .W)) (b .0)) in
+      good-fresh-worst (k .n) (p .W) (size .0) (size .1) (span .0) (span .1)
+
+  pub store-made : worstIn (made k p) ≡ freshWorst (k .n) (p .W)
+  store-made = rw (fresh-store .1, fresh-store .2) (worst-back (freshWorst (k .n) (p .W)) good-worst)
+
+  pub sound-worst-made : SoundWorst (made k p)
+  sound-worst-made =
+      record {
+        worst-passes = rw (fresh-store .1, fresh-store .2) (worst-passes (freshWorst (k .n) (p .W)) good-worst);
+        worst-good = subst GoodWorst (sym store-made) good-worst;
+      }
+
 -- ---- a fresh set
 
 module _ (k : Making) (p : Lent) (d : Made k p) where
@@ -122,31 +157,18 @@ module _ (k : Making) (p : Lent) (d : Made k p) where
   pub gate-made : gateIn (made k p) ≡ freshGate (settings k)
   gate-made = rw (gate-stores .0, gate-stores .1) (gate-back (freshGate (settings k)) good-gate)
 
-  good-worst : GoodWorst (freshWorst (k .n) (p .W))
-  good-worst =
-      let m = worst-made (p .stores .wu) (p .stores .wf) (k .n) (p .W) (unfold newWorst in d .worst) in
-      good-fresh-worst (k .n) (p .W) (m .0) (m .1) (m .2) (m .3)
-
-  worst-stores : (newWorst k p .1 ≡ worstU (freshWorst (k .n) (p .W))) × (newWorst k p .2 ≡ worstF (freshWorst (k .n) (p .W)))
-  unfolding newWorst
-  worst-stores =
-      let m = worst-made (p .stores .wu) (p .stores .wf) (k .n) (p .W) (d .worst) in
-      (ap (λ r. r .u) (m .4), ap (λ r. r .f) (m .4))
-
-  store-made : worstIn (made k p) ≡ freshWorst (k .n) (p .W)
-  store-made = rw (worst-stores .0, worst-stores .1) (worst-back (freshWorst (k .n) (p .W)) good-worst)
-
   pub sound-made : Sound (made k p)
   sound-made =
       let b = sound-bank-made k p (d .bank) in
+      let w = sound-worst-made k p (d .worst) in
       record {
         bank-passes = b .bank-passes;
         bank-good = b .bank-good;
         gate-passes = rw (gate-stores .0, gate-stores .1) (gate-passes (freshGate (settings k)) good-gate);
         gate-good = subst GoodGate (sym gate-made) good-gate;
-        worst-passes = rw (worst-stores .0, worst-stores .1) (worst-passes (freshWorst (k .n) (p .W)) good-worst);
-        worst-good = subst GoodWorst (sym store-made) good-worst;
+        worst-passes = w .worst-passes;
+        worst-good = w .worst-good;
         worst-n =
-            ap (λ (w : Worst). w .n) store-made
+            ap (λ (w : Worst). w .n) (store-made k p (d .worst))
             ∙ (unfold freshWorst freshBank in sym (ap (λ (b : FloorBank). b .n) (bank-made k p (d .bank))));
       }

@@ -28,3 +28,4 @@ pub mod Remembered
 pub mod Exports
 pub mod Segments
 pub mod Louder
+pub mod WorstOfLate
