@@ -24,7 +24,7 @@ use Rattle.model.proofs.GoodGates.{gate-back, gate-passes}
 use Rattle.model.proofs.FreshGates.{good-fresh-gate}
 use Rattle.model.proofs.Reach.{made-fresh}
 use Rattle.model.proofs.SettledFloors.{runBank}
-use Rattle.model.specs.Demand3.{Call, Stores, Lent, leftBy, bankHops, bankIn, Making, newBank, newGate, newWorst, made, Made}
+use Rattle.model.specs.Demand3.{Call, Lent, leftBy, bankHops, bankIn, Making, newBank, newGate, newWorst, made, Made}
 use Rattle.model.specs.Sets.{gateIn, worstIn, Sound}
 use Rattle.model.specs.Worst.{Worst, freshWorst, worstU, worstF}
 use Rattle.model.specs.WorstCalls.{worstMakeRefusal, worstLeaves, worstNew}

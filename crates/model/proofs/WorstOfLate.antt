@@ -17,7 +17,7 @@ use Rattle.model.specs.Readings.{effectiveAt}
 use Rattle.model.specs.GateCalls.{gateUpdate, gateHold}
 use Rattle.model.specs.Worst.{Worst, freshWorst, ringOf, worstOf, floorsTaken, takenAt, worstStep, inTurn, worstAt, highest, latest}
 use Rattle.model.specs.WorstCalls.{besideRefusal, worstReadRefusal, updateIf, worstReadingOf, worstReading}
-use Rattle.model.specs.Demand3.{Call, Arguments, bank, gate, hold, Stores, step, answer, left, arguments, leftBy, answers, bankHop, bankIn, Making, Lent, made}
+use Rattle.model.specs.Demand3.{Call, bank, gate, hold, Stores, step, answer, left, arguments, leftBy, answers, bankHop, bankIn, Making, Lent, made}
 use Rattle.model.specs.Sets.{worstIn}
 use Rattle.model.specs.WorstOfLate.{carries, plain, counts, slowBank, slowBanks, floorsIn, Fresh, WorstIs, WorstSound, SameBut, Unnoticed}
 use Rattle.model.proofs.Queue.{newest-all}
