@@ -1,14 +1,13 @@
--- Document 01, "Windows, ladder, gate": the ladder, which stands in for powf.
+-- Document 01, "Windows, ladder, gate": the ladder, which stands in for powf; document 02, R-5: rounded upward.
 use mathlib.Core.Path.{_≡_, refl}
 use mathlib.Core.Bool.{Bool, true, false, cond, _&&_}
 use mathlib.Core.List.{List, [], _∷_}
-use Prim.Native.Nat.{ℕ, suc, _+_, _-_, _/_, _%_, _^_}
+use Prim.Native.Nat.{ℕ, suc, _+_, _-_, _*_, _/_, _%_, _^_, min}
 use lib.Dec.{leb, ltb}
 use lib.ListN.{getD}
 use lib.IntN.{pos}
-use lib.Ieee.{Float, nan, binary64, neg, mul, lt, le, eq, isNan, ofInt, ofBits, round}
+use lib.Ieee.{Float, nan, inf, fin, up, down, binary64, neg, mul, lt, isNan, ofInt, ofBits, round}
 use Rattle.laws.specs.Tests.{allBelow}
-use Rattle.model.specs.Numbers.{f0}
 use Rattle.model.specs.Ring.{floorHeld}
 
 -- T: 80 whole numbers
@@ -56,18 +55,29 @@ f400-is = refl
 abbrev pub held : Float → Float
 held s = cond (lt s (neg f240)) (neg f240) (cond (lt f400 s) f400 s)
 
--- the floor of a negative z, of which t is the whole part of -z: -t, or one less where that cuts something off; 1920 is added
-abbrev pub floorBelow : ℕ → Float → ℕ
-floorBelow t x = cond (eq (ofInt binary64 (pos t)) x) (1920 - t) (1920 - (t + 1))
+-- the same range in eighths of a dB: so many rungs below 0 dB, and so many above
+abbrev pub rungsBelow : ℕ
+rungsBelow = 1920
 
--- floor(z) + 1920, for z from -1920 to 3200
+abbrev pub rungsAbove : ℕ
+rungsAbove = 3200
+
+-- the least whole number not below x, held to 0..top; NaN gives 0
+unfoldable pub ceilHeld : ℕ → Float → ℕ
+ceilHeld top nan = 0
+ceilHeld top (inf true) = 0
+ceilHeld top (inf false) = top
+ceilHeld top (fin true m e) = 0
+ceilHeld top (fin false m e) = min ((m * up e + (down e - 1)) / down e) top
+
+-- R-5: i + 1920, where i is the least whole number not below z, for z from -1920 to 3200. Below 0 that is what the floor of -z says
 unfoldable pub rung : Float → ℕ
-rung z = cond (le f0 z) (1920 + floorHeld 3200 z) (floorBelow (floorHeld 1920 (neg z)) (neg z))
+rung z = rungsBelow + ceilHeld rungsAbove z - floorHeld rungsBelow (neg z)
 
 -- T[j] times the literal of 10^(q - 9), rounded once, for the rung i + 1920 = 80 (q + 24) + j
 unfoldable pub rungValue : ℕ → Float
 rungValue r = mul binary64 (ofInt binary64 (pos (rootOf (r % 80)))) (tenTo (r / 80))
 
--- i = floor(8s): 8 × s is exact. A NaN s gives NaN
+-- R-5: the smallest eighth not below s, so i is the least whole number not below 8s: 8 × s is exact. A NaN s gives NaN
 unfoldable pub ladder : Float → Float
 ladder s = cond (isNan s) nan (rungValue (rung (mul binary64 f8 (held s))))
