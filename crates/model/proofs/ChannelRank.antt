@@ -10,7 +10,7 @@ use borrow.Author.Tests.{eq-eqb, ne-eqb}
 use Rattle.laws.specs.Lists.{occ}
 use Rattle.laws.proofs.Lists.{getD-part}
 use Rattle.laws.proofs.Tests.{by-test}
-use Rattle.model.specs.Numbers.{histMin}
+use Rattle.model.specs.Layout.{histMin, bins, ringLen, atCounts}
 use Rattle.model.specs.Ring.{ChannelFloor, entries, centreOf, smallest, without, quartileOf, quartile, rawFloor, usableFloor, skipOf}
 use Rattle.model.specs.Stores.{chanOf}
 use Rattle.model.specs.Sound.{Sound}
@@ -29,20 +29,20 @@ under-top {R} {K} c s =
     ∙ length-entries c s
 
 -- a count as it stands in the store
-pub count-at : (l : List ℕ) (b : ℕ) → Sound 250 280 (chanOf l) → b < 280 → getD l (250 + b) 0 ≡ occ b (entries (chanOf l))
-count-at l b s h = sym (getD-part 250 280 l b 0 h) ∙ s .recount b h
+pub count-at : (l : List ℕ) (b : ℕ) → Sound ringLen bins (chanOf l) → b < bins → getD l (atCounts + b) 0 ≡ occ b (entries (chanOf l))
+count-at l b s h = sym (getD-part atCounts bins l b 0 h) ∙ s .recount b h
 
 -- ---- the scan of the counts, before bin b: so many entries were passed, fewer than the rank
 
 pub record Scan (l : List ℕ) (rank passed b : ℕ) : Type 0 where
-  pub most : b ≤ 280
+  pub most : b ≤ bins
   pub sum : passed ≡ under b l
   pub short : passed < rank
 
 pub scan-begins : (l : List ℕ) (rank : ℕ) → 0 < rank → Scan l rank 0 0
 scan-begins l rank h = record { most = omega arith; sum = sym (under-zero l); short = h }
 
-pub scan-turns : {l : List ℕ} {rank passed b : ℕ} (x : ℕ) → Scan l rank passed b → x ≡ occ b l → b < 280 → passed + x < rank → Scan l rank (passed + x) (b + 1)
+pub scan-turns : {l : List ℕ} {rank passed b : ℕ} (x : ℕ) → Scan l rank passed b → x ≡ occ b l → b < bins → passed + x < rank → Scan l rank (passed + x) (b + 1)
 scan-turns {l} {b = b} x s e h k = record { most = omega arith; sum = omega (arith, s .sum, under-more b l); short = k }
 
 pub scan-finds : {l : List ℕ} {rank passed b : ℕ} (x : ℕ) → Scan l rank passed b → x ≡ occ b l → rank ≤ passed + x → b ≡ smallest rank l

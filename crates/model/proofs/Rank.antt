@@ -8,6 +8,7 @@ use lib.ListN.{length, getD}
 use borrow.Author.Tests.{leb-true, leb-false, ltb-true, ltb-false, lt-ltb, le-ltb, eqb-true, eqb-false, eq-eqb, ne-eqb}
 use Rattle.laws.specs.Lists.{one, occ, count}
 use Rattle.laws.proofs.Tests.{by-test}
+use Rattle.model.specs.Layout.{lastBin}
 use Rattle.model.specs.Ring.{insert, sorted, without, smallest}
 
 -- how many of l are below b
@@ -100,11 +101,11 @@ at-most b (x ∷ l) (suc i) d o k =
 
 smallest-least : (b k : ℕ) (l : List ℕ) → 0 < k → k ≤ length l → under b l < k → b ≤ smallest k l
 unfolding smallest
-smallest-least b k l p h u = at-least b (sorted l) (k - 1) 279 (ordered-sorted l) (omega (arith, length-sorted l)) (omega (arith, under-sorted b l))
+smallest-least b k l p h u = at-least b (sorted l) (k - 1) lastBin (ordered-sorted l) (omega (arith, length-sorted l)) (omega (arith, under-sorted b l))
 
 smallest-below : (b k : ℕ) (l : List ℕ) → 0 < k → k ≤ under b l → smallest k l < b
 unfolding smallest
-smallest-below b k l p u = at-most b (sorted l) (k - 1) 279 (ordered-sorted l) (omega (arith, under-sorted b l))
+smallest-below b k l p u = at-most b (sorted l) (k - 1) lastBin (ordered-sorted l) (omega (arith, under-sorted b l))
 
 under-le : (b : ℕ) (l : List ℕ) → under b l ≤ length l
 under-le b [] = omega arith

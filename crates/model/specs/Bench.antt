@@ -7,6 +7,7 @@ use lib.ListN.{getD, replicate}
 use lib.Ieee.{Float, nan, inf, binary64, neg, sub, add, div, mul, lt, le, isNan, ofBits, ofInt, round, sum, odd, units, size, span, climb, ofFields}
 use lib.Count.{trailingZeros}
 use Rattle.model.specs.Numbers.{f0}
+use Rattle.model.specs.Layout.{ringLen}
 use Rattle.model.specs.Ring.{ChannelFloor, floorHeld, binOf, push, pushAs, pushIn, without, insert, sorted, smallest, quartile, rawFloor, usableFloor}
 use Rattle.model.specs.Bank.{FloorBank, Hop, firstAt, ranked, median, freshChannel, freshBank, smoothAfter, seedsAfter, sumsAfter, chansAfter, rawFloors, usableFloors, blockFloors, riseFloors, effectiveFloor, riseFloor, slowStep, fastStep, bankStep}
 use Rattle.model.specs.Readings.{effectiveAt, riseAt}
@@ -20,7 +21,7 @@ minus m d = neg (round binary64 false m d)
 -- a channel after pushes of these bins, its block having a seed push
 abbrev pub pushes : ChannelFloor → List ℕ → ChannelFloor
 pushes c [] = c
-pushes c (b ∷ bs) = pushes (pushIn 250 false c b) bs
+pushes c (b ∷ bs) = pushes (pushIn ringLen false c b) bs
 
 -- a bank of two channels after one hop of this dB
 abbrev pub twoAfter : List Float → FloorBank
