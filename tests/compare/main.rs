@@ -9,6 +9,7 @@ mod faults;
 #[path = "build/floor.rs"]
 mod floor;
 mod history;
+mod layout;
 mod numbers;
 mod rules;
 mod runs;

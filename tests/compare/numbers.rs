@@ -1,4 +1,5 @@
 // Seeded numbers, and the floats that are worth feeding.
+use crate::layout::{BINS, HIST_MIN_DB};
 
 /// splitmix64
 pub struct Rng(pub u64);
@@ -36,7 +37,7 @@ pub fn same(a: f64, b: f64) -> bool {
 
 /// An edge between two bins, or a neighbour of one.
 pub fn edge(rng: &mut Rng) -> f64 {
-    let x = -140.0 + rng.below(282) as f64 / 2.0 - 0.5;
+    let x = HIST_MIN_DB + rng.below(BINS + 2) as f64 / 2.0 - 0.5;
     match rng.below(4) {
         0 => x.next_up(),
         1 => x.next_down(),

@@ -39,9 +39,9 @@ impl FloorBank {
         let channel = |c: &[u16]| ChannelFloor {
             ring: c[..RING_LEN].try_into().unwrap(),
             hist: std::array::from_fn(|b| c[RING_LEN + b] as u8),
-            ring_pos: c[530] as usize,
-            filled: c[531] as usize,
-            lead_silent: c[532],
+            ring_pos: c[RING_LEN + HIST_BINS] as usize,
+            filled: c[RING_LEN + HIST_BINS + 1] as usize,
+            lead_silent: c[RING_LEN + HIST_BINS + 2],
         };
         let mut at = 0;
         let mut part = |len: usize| {
@@ -49,7 +49,7 @@ impl FloorBank {
             f[at - len..at].to_vec()
         };
         FloorBank {
-            channels: u[3 + blocks..].chunks_exact(533).map(channel).collect(),
+            channels: u[3 + blocks..].chunks_exact(RING_LEN + HIST_BINS + 3).map(channel).collect(),
             floor_db: part(n),
             usable_floor_db: part(n),
             hop_counter: u[1] as u64,

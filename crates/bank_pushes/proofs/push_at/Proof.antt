@@ -38,7 +38,7 @@ returns : tie.Need-returns
 returns c =
     let u = c .before .before in
     let s = u .before .before .before .before in
-    simp (width (s .args .a) 533, u .push .ensures, u .before .before .bin-index .ensures)
+    simp (width (s .args .a) channelLen, u .push .ensures, u .before .before .bin-index .ensures)
 
 pub push-at-spec : {M : Type 1} → statement M
 push-at-spec =
