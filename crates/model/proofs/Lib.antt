@@ -8,6 +8,7 @@ pub mod ChannelRank
 pub mod BankStores
 pub mod GoodBanks
 pub mod FreshBanks
+pub mod DeadBranches
 pub mod Reach
 pub mod WindowStores
 pub mod GateStores

@@ -25,13 +25,10 @@ use Rattle.model.specs.GoodBank.{Good}
 use Rattle.model.specs.Demand3.{loud, firstSlowLoud}
 use Rattle.model.proofs.Quartiles.{quartile-same}
 
-pub small : ringLen < 255
-small = omega arith
-
 -- ---- one bank, j slow hops after a start
 
 pub record FadingBank (j : ℕ) (b : FloorBank) : Type 0 where
-  pub fading : (k : ℕ) → k < b .n → Fading ringLen bins small j (channel b k)
+  pub fading : (k : ℕ) → k < b .n → Fading ringLen bins j (channel b k)
   pub seeded : 0 < j → (i : ℕ) → i < blocks (b .n) → 0 < getD (b .seeds) i 0
 
 seed-loud : (s : ℕ) (med : Float) → le histMin med ≡ true → 0 < s + one (takesSeed s med)
@@ -63,11 +60,11 @@ unfolding slowStep chansAfter
 chan-after b h k l = getD-tab (b .n) (later b h) k freshChannel l
 
 fading-later : (j : ℕ) (b : FloorBank) (h : Hop) → FadingBank j b → (j ≡ 0 → loud (b .n) (h .db) ≡ true) → (k : ℕ) → k < b .n
-    → Fading ringLen bins small (suc j) (later b h k)
+    → Fading ringLen bins (suc j) (later b h k)
 fading-later j b h f l k m =
     let p : 0 < getD (seedsAfter b (h .db)) (k / blockChannels) 0 = seeds-after j b (h .db) f l (k / blockChannels) (omega arith) in
     rw (ne-eqb 0 (getD (seedsAfter b (h .db)) (k / blockChannels) 0) (λ e. omega arith))
-    (fading-in ringLen bins small j (channel b k) (binOf (getD (h .db) k f0)) (f .fading k m) (bin-below (getD (h .db) k f0)))
+    (fading-in ringLen bins j (channel b k) (binOf (getD (h .db) k f0)) (f .fading k m) (bin-below (getD (h .db) k f0)))
 
 fading-slow : (j : ℕ) (b : FloorBank) (h : Hop) → FadingBank j b → (j ≡ 0 → loud (b .n) (h .db) ≡ true) → FadingBank (suc j) (slowStep b h)
 fading-slow j b h f l =
@@ -107,7 +104,7 @@ near-fast j b d h e =
 near-later : (j : ℕ) (b d : FloorBank) (h : Hop) → FadingBank j b → FadingBank j d → NearBank j b d → (k : ℕ) → k < b .n
     → newest (suc j) (W (later b h k)) ≡ newest (suc j) (W (later d h k))
 near-later j b d h fb fd e k l =
-    near-in ringLen bins small j (eqb 0 (getD (seedsAfter b (h .db)) (k / blockChannels) 0)) (eqb 0 (getD (seedsAfter d (h .db)) (k / blockChannels) 0)) (channel b k) (channel d k)
+    near-in ringLen bins j (eqb 0 (getD (seedsAfter b (h .db)) (k / blockChannels) 0)) (eqb 0 (getD (seedsAfter d (h .db)) (k / blockChannels) 0)) (channel b k) (channel d k)
     (binOf (getD (h .db) k f0)) (fb .fading k l .good) (fd .fading k (omega (arith, e .same-n)) .good) (bin-below (getD (h .db) k f0)) (e .near k l)
 
 -- the seed is no longer looked at
@@ -122,24 +119,24 @@ effective-settled u f p s = refl
 -- ---- a channel, once ringLen slow hops have passed
 
 module _ (j : ℕ) (far : ringLen ≤ j) where
-  since-settled : (c : ChannelFloor) → Fading ringLen bins small j c → since c ≡ ringLen
-  since-settled c f = omega (arith, lead-gone ringLen bins small j far c f, filled-up ringLen bins small j far c f)
+  since-settled : (c : ChannelFloor) → Fading ringLen bins j c → since c ≡ ringLen
+  since-settled c f = omega (arith, lead-gone ringLen bins j far c f, filled-up ringLen bins j far c f)
 
   -- usable is raw
-  usable-settled : (c : ChannelFloor) → Fading ringLen bins small j c → usableFloor c ≡ rawFloor c
+  usable-settled : (c : ChannelFloor) → Fading ringLen bins j c → usableFloor c ≡ rawFloor c
   unfolding usableFloor rawFloor
-  usable-settled c f = rw (lead-gone ringLen bins small j far c f, filled-up ringLen bins small j far c f)
+  usable-settled c f = rw (lead-gone ringLen bins j far c f, filled-up ringLen bins j far c f)
 
-  raw-same : (c d : ChannelFloor) → Fading ringLen bins small j c → Fading ringLen bins small j d → newest j (W c) ≡ newest j (W d) → rawFloor c ≡ rawFloor d
+  raw-same : (c d : ChannelFloor) → Fading ringLen bins j c → Fading ringLen bins j d → newest j (W c) ≡ newest j (W d) → rawFloor c ≡ rawFloor d
   unfolding rawFloor quartile without
   raw-same c d f g e =
-      quartile-same (entries c) (entries d) (entries-equal ringLen bins small j far c d f g e) (c .filled - 0) bins
-      (omega (arith, under-top c (good-sound ringLen bins small (omega arith) c (f .good))))
-      ∙ ap (λ (r : ℕ). quartileOf (r - 0) (entries d)) (filled-up ringLen bins small j far c f ∙ sym (filled-up ringLen bins small j far d g))
+      quartile-same (entries c) (entries d) (entries-equal ringLen bins j far c d f g e) (c .filled - 0) bins
+      (omega (arith, under-top c (good-sound ringLen bins (omega arith) c (f .good))))
+      ∙ ap (λ (r : ℕ). quartileOf (r - 0) (entries d)) (filled-up ringLen bins j far c f ∙ sym (filled-up ringLen bins j far d g))
 
 -- the floors that a slow hop stores
-module _ (j : ℕ) (far : ringLen ≤ j) (b d : FloorBank) (h : Hop) (same-n : b .n ≡ d .n) (fb : (k : ℕ) → k < b .n → Fading ringLen bins small j (later b h k))
-    (fd : (k : ℕ) → k < b .n → Fading ringLen bins small j (later d h k))
+module _ (j : ℕ) (far : ringLen ≤ j) (b d : FloorBank) (h : Hop) (same-n : b .n ≡ d .n) (fb : (k : ℕ) → k < b .n → Fading ringLen bins j (later b h k))
+    (fd : (k : ℕ) → k < b .n → Fading ringLen bins j (later d h k))
     (near : (k : ℕ) → k < b .n → newest j (W (later b h k)) ≡ newest j (W (later d h k)))
   where
     -- the channels that a slow hop leaves
@@ -177,7 +174,7 @@ module _ (j : ℕ) (far : ringLen ≤ j) (b d : FloorBank) (h : Hop) (same-n : b
         ∙ ap₂ (λ (a c : List Float). fmax (fmin (getD a k f0) (add binary64 (getD c (k / blockChannels) f0) f3)) (getD c (k / blockChannels) f0)) e f
         ∙ sym (settled k (fd k l) (at d k (omega arith)) v y q t))
       where
-        settled : (k : ℕ) {c e : ChannelFloor} → Fading ringLen bins small j c → e ≡ c → (u x : List Float) (p : List ℕ) (s : List Float)
+        settled : (k : ℕ) {c e : ChannelFloor} → Fading ringLen bins j c → e ≡ c → (u x : List Float) (p : List ℕ) (s : List Float)
             → riseFloor (getD u k f0) (getD x (k / blockChannels) f0) (since e) (getD p (k / blockChannels) 0) (getD s (k / blockChannels) f0)
             ≡ fmax (fmin (getD u k f0) (add binary64 (getD x (k / blockChannels) f0) f3)) (getD x (k / blockChannels) f0)
         settled k {c} {e} f q u x p s = rw (q, since-settled j far c f) (rise-settled (getD u k f0) (getD x (k / blockChannels) f0) (getD p (k / blockChannels) 0) (getD s (k / blockChannels) f0))
@@ -299,7 +296,7 @@ settled-effective i l b d s k m =
 fading-good : (b : FloorBank) → Good b → FadingBank 0 b
 fading-good b g =
     record {
-      fading = λ k l. fading-start ringLen bins small (channel b k) (sound-good ringLen bins small (omega arith) (channel b k) (g .sound k l));
+      fading = λ k l. fading-start ringLen bins (channel b k) (sound-good ringLen bins (omega arith) (channel b k) (g .sound k l));
       seeded = λ z. absurd (omega arith);
     }
 
@@ -308,5 +305,5 @@ alike-start b d gb gd n p =
     record {
       one = fading-good b gb;
       other = fading-good d gd;
-      both = record { same-n = n; same-phase = p; near = λ k l. near-start ringLen bins small (channel b k) (channel d k); floors = λ z. absurd (omega arith) };
+      both = record { same-n = n; same-phase = p; near = λ k l. near-start ringLen bins (channel b k) (channel d k); floors = λ z. absurd (omega arith) };
     }

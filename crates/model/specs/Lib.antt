@@ -15,6 +15,8 @@ pub mod Bench
 pub mod Sound
 pub mod GoodBank
 pub mod GoodGate
+pub mod Carried
+pub mod DeadBranches
 pub mod Reach
 pub mod Demand3
 pub mod Sets

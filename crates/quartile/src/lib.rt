@@ -6,14 +6,12 @@ ghost use Rattle.model.specs.Layout.{bins, ringLen, atCounts, atFilled, channel
 ghost use Rattle.model.specs.Ring.{entries, smallest, quartile, rawFloor, usableFloor};
 ghost use Rattle.model.specs.Stores.{chanOf};
 ghost use Rattle.model.specs.Sound.{Sound};
-use model::layout::BINS;
 use model::layout::COUNTS;
 use model::layout::FILLED;
 use model::layout::HIST_MIN_DB;
-use model::layout::LAST_BIN;
 use model::layout::LEAD;
 
-// The bin of the rank-th smallest entry: the first at which the counts so far come to rank.
+// The bin of the rank-th smallest entry: the first at which the counts so far come to rank. There is one: all counts come to filled.
 fn ranked_bin(chan: &[u16], rank: usize) -> u16
     requires { ⌜ (length (now chan) ≡ channelLen) × Sound ringLen bins (chanOf (now chan)) ⌝ }
     requires { ⌜ (0 < rank) × (rank ≤ getD (now chan) atFilled 0) ⌝ }
@@ -21,14 +19,13 @@ fn ranked_bin(chan: &[u16], rank: usize) -> u16
 {
     let mut passed: usize = 0;
     let mut b: usize = 0;
-    while b < BINS {
+    loop {
         passed += laws::wide(chan[COUNTS + b]);
         if passed >= rank {
             return b as u16;
         }
         b += 1;
     }
-    LAST_BIN
 }
 
 // Entries of bin 0 are the smallest, so to leave `skip` of them out is to look `skip` ranks further on.

@@ -2,12 +2,13 @@
 use mathlib.Core.Bool.{Bool, true, false, _&&_}
 use mathlib.Core.Path.{_≡_, refl, sym, ap, ap₂, _∙_}
 use mathlib.Core.List.{List, [], _∷_, _++_}
-use Prim.Native.Nat.{ℕ, zero, suc, _+_, _-_, _%_, _≤_, _<_, min}
+use Prim.Native.Nat.{ℕ, zero, suc, _+_, _-_, _%_, _≤_, _<_}
 use native.Mathlib.Nat.{zero-add}
+use native.Mathlib.Decide.{ℕ-discrete}
 use native.Mathlib.Omega.{arith}
 use lib.Dec.{eqb}
 use lib.ListN.{length, getD, set, length-take, length-set}
-use lib.Seq.{set-append-left}
+use lib.Seq.{set-append-left, getD-set-same, getD-set-other}
 use Rattle.laws.specs.Lists.{part, one}
 use Rattle.laws.proofs.Lists.{length-part, getD-part}
 use Rattle.model.specs.Layout.{bins, ringLen, atCounts, atNext, atFilled, atLead, channelLen}
@@ -16,7 +17,9 @@ use Rattle.model.specs.Stores.{chanU, chanOf}
 use Rattle.ring.specs.Push.{roomed, entered, Roomy}
 use Rattle.model.specs.Sound.{Sound}
 use Rattle.laws.proofs.Counting.{occ-le, set-append-add}
+use Rattle.model.specs.DeadBranches.{CountsWithin}
 use Rattle.model.proofs.Channels.{chan-back, chan-forth, length-chanU}
+use Rattle.model.proofs.DeadBranches.{counts-within}
 
 -- ---- what the code stores into the entries, as a channel
 
@@ -80,11 +83,11 @@ module _ (l : List ℕ) (long : length l ≡ channelLen) where
       D = getD l atLead 0 - one (eqb 0 o)
 
   pub took : (b r : ℕ) → getD l atNext 0 < ringLen → b < bins
-      → set (set (set (set l (getD l atNext 0) b) (atCounts + b) (min (getD l (atCounts + b) 0 + 1) 255)) atNext ((getD l atNext 0 + 1) % ringLen)) atLead (getD l atLead 0 + r)
+      → set (set (set (set l (getD l atNext 0) b) (atCounts + b) (getD l (atCounts + b) 0 + 1)) atNext ((getD l atNext 0 + 1) % ringLen)) atLead (getD l atLead 0 + r)
       ≡ chanU (entered (chanOf l) b r)
   unfolding entered
   took b r n h =
-      ap (λ (v : ℕ). set (set (set (set l N b) (atCounts + b) (min (v + 1) 255)) atNext P) atLead D) (count-is b h)
+      ap (λ (v : ℕ). set (set (set (set l N b) (atCounts + b) (v + 1)) atNext P) atLead D) (count-is b h)
       ∙ ap (λ (x : List ℕ). set (set (set (set x N b) (atCounts + b) U) atNext P) atLead D) (sym (chan-forth l long))
       ∙ ap (λ (x : List ℕ). set (set (set x (atCounts + b) U) atNext P) atLead D) (in-ring R K (fieldsOf l) ring-long counts-long N b n)
       ∙ ap (λ (x : List ℕ). set (set x atNext P) atLead D) (in-counts R′ K (fieldsOf l) ring-long′ counts-long b U h)
@@ -110,7 +113,7 @@ module _ (l : List ℕ) (long : length l ≡ channelLen) where
       K = countsOf l
 
       U : ℕ
-      U = min (getD (countsOf l) b 0 + 1) 255
+      U = getD (countsOf l) b 0 + 1
 
       ring-long′ : length R′ ≡ ringLen
       ring-long′ = length-set R N b ∙ ring-long
@@ -160,6 +163,27 @@ module _ (l : List ℕ) (long : length l ≡ channelLen) where
   lead-falls true = omega arith
   lead-falls false = omega arith
 
+  room-small : (t : Bool) → Sound ringLen bins (chanOf l) → (b : ℕ) → b < bins → getD (roomed t (chanOf l) .counts) b 0 ≤ ringLen
+  unfolding roomed
+  room-small true s b h = go (ℕ-discrete b o)
+    where
+      o : ℕ
+      o = oldest (chanOf l)
+
+      w : CountsWithin ringLen bins (chanOf l)
+      w = counts-within ringLen bins (chanOf l) s
+
+      go : Dec (b ≡ o) → getD (uncounted (countsOf l) o) b 0 ≤ ringLen
+      go (yes e) =
+          omega (
+            arith,
+            ap (λ (x : ℕ). getD (uncounted (countsOf l) o) x 0) e,
+            getD-set-same (countsOf l) o (getD (countsOf l) o 0 - 1) 0 (omega (arith, counts-long l long)),
+            w .before o (omega arith),
+          )
+      go (no n) = omega (arith, getD-set-other (countsOf l) o b (getD (countsOf l) o 0 - 1) 0 n, w .before b h)
+  room-small false s b h = counts-within ringLen bins (chanOf l) s .before b h
+
   next-stays : (t : Bool) → roomed t (chanOf l) .next ≡ getD l atNext 0
   unfolding roomed
   next-stays true = refl
@@ -170,6 +194,9 @@ module _ (l : List ℕ) (long : length l ≡ channelLen) where
       record {
         long = length-chanU (roomed t (chanOf l)) (room-ring t) (room-counts t);
         next-below = omega (arith, ap (λ (c : ChannelFloor). c .next) (room-back t), next-stays t, s .next-below);
+        counts-small =
+            λ b h.
+            omega (arith, getD-part atCounts bins (chanU (roomed t (chanOf l))) b 0 h, ap (λ (c : ChannelFloor). getD (c .counts) b 0) (room-back t), room-small t s b h);
         lead-small = omega (arith, ap (λ (c : ChannelFloor). c .lead) (room-back t), lead-falls t, lead-small s);
       }
 

@@ -6,7 +6,7 @@ use Prim.Native.Nat.{ℕ, _+_, _-_, _%_, _≤_, _<_}
 use lib.Dec.{eqb}
 use lib.ListN.{length, getD, set}
 use Rattle.laws.specs.Lists.{one}
-use Rattle.model.specs.Layout.{ringLen, atNext, atLead, channelLen}
+use Rattle.model.specs.Layout.{bins, ringLen, atCounts, atNext, atLead, channelLen}
 use Rattle.model.specs.Ring.{ChannelFloor, counted, uncounted, oldest}
 
 -- a full ring's oldest goes; another ring has one entry more
@@ -36,4 +36,5 @@ entered c b r =
 pub record Roomy (l : List ℕ) : Type 0 where
   pub long : length l ≡ channelLen
   pub next-below : getD l atNext 0 < ringLen
+  pub counts-small : (b : ℕ) → b < bins → getD l (atCounts + b) 0 ≤ ringLen
   pub lead-small : getD l atLead 0 ≤ ringLen

@@ -13,10 +13,10 @@ use Rattle.ring.proofs.bin_index.Tie as tie
 abbrev zOf : Float → Float
 zOf p = div binary64 (add binary64 p depth) half
 
--- 280 is 35 * 2 ^ 3
+-- the two blanks are what the float of `bins` is: m * 2 ^ j
 here : (c : tie.Then2) → Between (zOf (c .before .before .args .p)) lastBin
 unfolding ofBits
-here c = between 35 3 lastBin refl (lit≤ tt) _ (c .before .if1 .taken) (c .if2 .taken)
+here c = between _ _ lastBin refl (lit≤ tt) _ (c .before .if1 .taken) (c .if2 .taken)
 
 truncating-f64-to-u64-requires : tie.Need-truncating-f64-to-u64-requires
 truncating-f64-to-u64-requires c κs = (here c .low, here c .high)
@@ -30,7 +30,7 @@ returns c = c .truncating-f64-to-u64 .ensures ∙ here (c .before) .whole
 
 returns-2 : tie.Need-returns-2
 unfolding binOf ofBits
-returns-2 c = sym (above 35 3 lastBin refl (lit≤ tt) (zOf (c .before .before .args .p)) (c .before .if1 .taken) (c .if2 .left))
+returns-2 c = sym (above _ _ lastBin refl (lit≤ tt) (zOf (c .before .before .args .p)) (c .before .if1 .taken) (c .if2 .left))
 
 returns-3 : tie.Need-returns-3
 unfolding binOf ofBits
