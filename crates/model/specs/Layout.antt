@@ -9,24 +9,24 @@ use Rattle.model.specs.Numbers.{half}
 
 -- ---- the histogram
 
--- how far it begins below 0 dB: 140
+-- how far it begins below 0 dB: 160
 abbrev pub depth : Float
-depth = ofBits binary64 0x4061_8000_0000_0000
+depth = ofBits binary64 0x4064_0000_0000_0000
 
-depth-is : depth ≡ round binary64 false 140 1
+depth-is : depth ≡ round binary64 false 160 1
 unfolding ofBits round
 depth-is = refl
 
 -- where it begins: the floor of a fresh channel, the quartile of no entries, and the least median that seeds
 abbrev pub histMin : Float
-histMin = ofBits binary64 0xc061_8000_0000_0000
+histMin = ofBits binary64 0xc064_0000_0000_0000
 
 histMin-is : histMin ≡ neg depth
 unfolding ofBits neg
 histMin-is = refl
 
 abbrev pub bins : ℕ
-bins = 280
+bins = 320
 
 abbrev pub lastBin : ℕ
 lastBin = bins - 1
@@ -36,11 +36,11 @@ bins-end : mul binary64 (ofInt binary64 (pos bins)) half ≡ depth
 unfolding ofBits round mul ofInt
 bins-end = refl
 
--- the smoothed power of a fresh channel: 1e-14
+-- the smoothed power of a fresh channel: 1e-16
 abbrev pub freshPower : Float
-freshPower = ofBits binary64 0x3d06_849b_86a1_2b9b
+freshPower = ofBits binary64 0x3c9c_d2b2_97d8_89bc
 
-freshPower-is : freshPower ≡ round binary64 false 1 100000000000000
+freshPower-is : freshPower ≡ round binary64 false 1 10000000000000000
 unfolding ofBits round
 freshPower-is = refl
 

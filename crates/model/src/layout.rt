@@ -1,12 +1,12 @@
 // The layout in numbers: what a change of the front end moves. specs/Layout.antt says the same to the contracts.
 
 // Where the histogram begins: the floor of a fresh channel, the quartile of no entries, and the least median that seeds.
-pub const HIST_DEPTH_DB: f64 = 140.0;
+pub const HIST_DEPTH_DB: f64 = 160.0;
 
 pub const HIST_MIN_DB: f64 = -HIST_DEPTH_DB;
 
 // Half a dB each, and the last ends at 0 dB.
-pub const BINS: usize = 280;
+pub const BINS: usize = 320;
 
 pub const BINS_U16: u16 = BINS as u16;
 
@@ -15,7 +15,7 @@ pub const BINS_F64: f64 = BINS as f64;
 pub const LAST_BIN: u16 = BINS_U16 - 1;
 
 // The smoothed power of a fresh channel.
-pub const FRESH_POWER: f64 = 1e-14;
+pub const FRESH_POWER: f64 = 1e-16;
 
 pub const RING_LEN: usize = 250;
 
