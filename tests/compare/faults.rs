@@ -1,7 +1,7 @@
 // Refusals: each fault, each pair of faults at once, and arbitrary words, stores and lengths.
 use crate::calls::{every_call, gate_making, making, Lent};
 use crate::floor::{self, FloorBank, Gate, ABSENT};
-use crate::layout::{place, BINS, BLOCK_CHANNELS, CHANNEL_LEN, COUNTS, DECIMATION_HOPS, FILLED, LEAD, NEXT, RING_LEN};
+use crate::layout::{place, BINS, BLOCK_CHANNELS, CHANNEL_LEN, COUNTS, DECIMATION_HOPS, FILLED, HIST_MIN_DB, LEAD, NEXT, RING_LEN};
 use crate::numbers::{any_f32, any_f64, any_lengths, any_levels, beside, Rng};
 use crate::rules::{count_alone, gate_floats, Alone};
 use crate::tally::Tally;
@@ -39,13 +39,14 @@ fn fit(l: &mut Lent) {
 
 type Fault = (&'static str, fn(&mut Lent, &mut Rng));
 
-const FAULTS: [Fault; 95] = [
+const FAULTS: [Fault; 96] = [
     ("no u16 store", |l, _| l.u_len = 0),
     ("u16 store of 1", |l, _| l.u_len = 1),
     ("u16 store of 2", |l, _| l.u_len = 2),
     ("u16 store of 3", |l, _| l.u_len = 3),
     ("u16 store one short", |l, _| l.u_len = l.u_len.saturating_sub(1)),
     ("u16 store one long", |l, _| l.u_len += 1),
+    ("u16 store from before R-11", |l, _| l.u_len = 3 + l.n.div_ceil(BLOCK_CHANNELS) + 533 * l.n),
     ("no f64 store", |l, _| l.f_len = 0),
     ("f64 store one short", |l, _| l.f_len = l.f_len.saturating_sub(1)),
     ("f64 store one long", |l, _| l.f_len += 1),
@@ -273,7 +274,7 @@ fn any_bank(n: usize, rng: &mut Rng) -> (Vec<u16>, Vec<f64>) {
         c[LEAD] = rng.below(c[COUNTS] as usize + 1) as u16;
     }
     let usual = rng.one_in(2);
-    f.iter_mut().for_each(|x| *x = if usual { -150.0 + 140.0 * rng.unit() } else { any_f64(rng) });
+    f.iter_mut().for_each(|x| *x = if usual { HIST_MIN_DB + 150.0 * rng.unit() } else { any_f64(rng) });
     (u, f)
 }
 

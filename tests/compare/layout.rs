@@ -1,6 +1,6 @@
 // The layout of document 01 with R-11, as the comparison has it: written from the papers and not from the library.
-pub const HIST_MIN_DB: f64 = -140.0;
-pub const BINS: usize = 280;
+pub const HIST_MIN_DB: f64 = -160.0;
+pub const BINS: usize = 320;
 pub const RING_LEN: usize = 250;
 /// A channel's part of the u16 store: ring, counts, next, filled, lead.
 pub const COUNTS: usize = RING_LEN;

@@ -7,8 +7,11 @@ src, out = pathlib.Path(sys.argv[1]), pathlib.Path(sys.argv[2])
 here = pathlib.Path(__file__).parent
 
 SUBSTITUTIONS = [
-    # the literal of document 01, "Stores": powf has no rounding that IEEE 754 decides
-    ("vec![db_to_linear(HIST_MIN_DB); n_channels]", "vec![1e-14; n_channels]"),
+    # the histogram begins at -160 dB, with 320 bins
+    ("const HIST_MIN_DB: f64 = -140.0;", "const HIST_MIN_DB: f64 = -160.0;"),
+    ("const HIST_BINS: usize = 280;", "const HIST_BINS: usize = 320;"),
+    # the literal of document 01, "Stores", as R-11 has it: powf has no rounding that IEEE 754 decides
+    ("vec![db_to_linear(HIST_MIN_DB); n_channels]", "vec![1e-16; n_channels]"),
     # the spectral reference is linear in document 01: the minimum as it stands before the logarithm
     ("pub fn spectral_reference_db(", "pub fn spectral_reference("),
     ("        10.0 * m.log10()\n", "        m\n"),
