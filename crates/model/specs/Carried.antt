@@ -1,5 +1,5 @@
 -- R-7: what was carried from floor.rs and is gone from Ring.antt: counts in eight bits, which saturate, and a scan of the counts with an answer
--- after its last bin; up to the bank update, which is made of them. Nothing uses these but `SameAnswers` (DeadBranches.antt).
+-- after its last bin; up to the bank update, which is made of them. Nothing uses these but `SameAnswers` (SameAnswers.antt).
 use mathlib.Core.Bool.{Bool, true, false, cond}
 use mathlib.Core.List.{List, [], _∷_}
 use Prim.Native.Nat.{ℕ, zero, suc, _+_, _-_, _/_, _%_, min}
@@ -14,8 +14,11 @@ use Rattle.model.specs.Bank.{FloorBank, Hop, freshChannel, smoothAfter, 
 
 -- ---- counts that saturate: up at 255, down at 0
 
+abbrev pub carriedTop : ℕ
+carriedTop = 255
+
 abbrev pub carriedCounted : List ℕ → ℕ → List ℕ
-carriedCounted cs b = set cs b (min (getD cs b 0 + 1) 255)
+carriedCounted cs b = set cs b (min (getD cs b 0 + 1) carriedTop)
 
 abbrev pub carriedUncounted : List ℕ → ℕ → List ℕ
 carriedUncounted cs b = set cs b (cond (eqb (getD cs b 0) 0) 0 (getD cs b 0 - 1))
