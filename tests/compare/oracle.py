@@ -47,9 +47,9 @@ for pattern in [r"const POWER_DB_EPSILON: f64 = [^;]*;\n", r"pub fn power_linear
         sys.exit(f"oracle.py: {len(found)} places, not one, match: {pattern}")
     kept += found
 
-# T, and the literals of 10^(q - 9) for q from -24 to 40
+# T, and the literals of 10^(q - 9) for q from -26 to 40 (R-11)
 tables = f"const T: [u64; 80] = {[root(j) for j in range(80)]};\n"
-tables += f"const TENS: [f64; 65] = [{', '.join(f'1e{q - 9}' for q in range(-24, 41))}];\n"
+tables += f"const TENS: [f64; 67] = [{', '.join(f'1e{q - 9}' for q in range(-26, 41))}];\n"
 
 out.mkdir(parents=True, exist_ok=True)
 (out / "floor.rs").write_text("\n".join([floor, tables, (here / "readable.rs").read_text()]))

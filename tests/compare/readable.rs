@@ -5,10 +5,10 @@ pub fn ladder(s: f64) -> f64 {
     if s.is_nan() {
         return f64::NAN;
     }
-    let i = (8.0 * s.clamp(-240.0, 400.0)).floor() as i32;
+    let i = (8.0 * s.clamp(-260.0, 400.0)).floor() as i32;
     let q = i.div_euclid(80);
     let j = i - 80 * q;
-    T[j as usize] as f64 * TENS[(q + 24) as usize]
+    T[j as usize] as f64 * TENS[(q + 26) as usize]
 }
 
 impl FloorBank {

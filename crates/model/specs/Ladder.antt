@@ -9,6 +9,7 @@ use lib.IntN.{pos}
 use lib.Ieee.{Float, nan, binary64, neg, mul, lt, le, eq, isNan, ofInt, ofBits, round}
 use Rattle.laws.specs.Tests.{allBelow}
 use Rattle.model.specs.Numbers.{f0}
+use Rattle.model.specs.Layout.{ladderMin, ladderMax, zeroRung, rungsAbove, zeroTen}
 use Rattle.model.specs.Ring.{floorHeld}
 
 -- T: 80 whole numbers
@@ -27,9 +28,9 @@ pub roots-right : allBelow 80 (λ j. isRoot j (rootOf j)) ≡ true
 unfolding allBelow rootOf
 roots-right = refl
 
--- the literal of 10^(q - 33)
+-- the literal of 10^(q - zeroTen)
 unfoldable pub tenTo : ℕ → Float
-tenTo q = cond (ltb q 33) (round binary64 false 1 (10 ^ (33 - q))) (round binary64 false (10 ^ (q - 33)) 1)
+tenTo q = cond (ltb q zeroTen) (round binary64 false 1 (10 ^ (zeroTen - q))) (round binary64 false (10 ^ (q - zeroTen)) 1)
 
 abbrev pub f8 : Float
 f8 = ofBits binary64 0x4020_0000_0000_0000
@@ -38,33 +39,19 @@ f8-is : f8 ≡ round binary64 false 8 1
 unfolding ofBits round
 f8-is = refl
 
-abbrev pub f240 : Float
-f240 = ofBits binary64 0x406e_0000_0000_0000
-
-f240-is : f240 ≡ round binary64 false 240 1
-unfolding ofBits round
-f240-is = refl
-
-abbrev pub f400 : Float
-f400 = ofBits binary64 0x4079_0000_0000_0000
-
-f400-is : f400 ≡ round binary64 false 400 1
-unfolding ofBits round
-f400-is = refl
-
--- s held to -240..400
+-- s held to ladderMin..ladderMax
 abbrev pub held : Float → Float
-held s = cond (lt s (neg f240)) (neg f240) (cond (lt f400 s) f400 s)
+held s = cond (lt s ladderMin) ladderMin (cond (lt ladderMax s) ladderMax s)
 
--- the floor of a negative z, of which t is the whole part of -z: -t, or one less where that cuts something off; 1920 is added
+-- the floor of a negative z, of which t is the whole part of -z: -t, or one less where that cuts something off; zeroRung is added
 abbrev pub floorBelow : ℕ → Float → ℕ
-floorBelow t x = cond (eq (ofInt binary64 (pos t)) x) (1920 - t) (1920 - (t + 1))
+floorBelow t x = cond (eq (ofInt binary64 (pos t)) x) (zeroRung - t) (zeroRung - (t + 1))
 
--- floor(z) + 1920, for z from -1920 to 3200
+-- floor(z) + zeroRung, for z from -zeroRung to rungsAbove
 unfoldable pub rung : Float → ℕ
-rung z = cond (le f0 z) (1920 + floorHeld 3200 z) (floorBelow (floorHeld 1920 (neg z)) (neg z))
+rung z = cond (le f0 z) (zeroRung + floorHeld rungsAbove z) (floorBelow (floorHeld zeroRung (neg z)) (neg z))
 
--- T[j] times the literal of 10^(q - 9), rounded once, for the rung i + 1920 = 80 (q + 24) + j
+-- T[j] times the literal of 10^(q - 9), rounded once, for the rung i + zeroRung = 80 (q + zeroTen - 9) + j
 unfoldable pub rungValue : ℕ → Float
 rungValue r = mul binary64 (ofInt binary64 (pos (rootOf (r % 80)))) (tenTo (r / 80))
 

@@ -2,7 +2,7 @@
 -- these names; the code uses those of src/layout.rt, and no contract with a name of this file is proved of code that says another number.
 use mathlib.Core.Path.{_≡_, refl}
 use mathlib.Core.Bool.{false}
-use Prim.Native.Nat.{ℕ, _+_, _-_, _*_}
+use Prim.Native.Nat.{ℕ, _+_, _-_, _*_, _/_}
 use lib.IntN.{pos}
 use lib.Ieee.{Float, binary64, neg, mul, ofInt, ofBits, round}
 use Rattle.model.specs.Numbers.{half}
@@ -77,3 +77,44 @@ decimationHops = 15
 -- the bank updates that fill a ring: demand 3's 3,750
 abbrev pub settlingHops : ℕ
 settlingHops = decimationHops * ringLen
+
+-- ---- the ladder: a rung for each eighth of a dB
+
+-- it goes from -260 dB ..
+abbrev pub ladderDepth : ℕ
+ladderDepth = 260
+
+abbrev pub ladderMin : Float
+ladderMin = ofBits binary64 0xc070_4000_0000_0000
+
+ladderMin-is : ladderMin ≡ neg (round binary64 false ladderDepth 1)
+unfolding ofBits round neg
+ladderMin-is = refl
+
+-- .. to 400
+abbrev pub ladderTop : ℕ
+ladderTop = 400
+
+abbrev pub ladderMax : Float
+ladderMax = ofBits binary64 0x4079_0000_0000_0000
+
+ladderMax-is : ladderMax ≡ round binary64 false ladderTop 1
+unfolding ofBits round
+ladderMax-is = refl
+
+-- rungs are counted from the lowest: where 0 dB stands, how many are above it, and the last of 5,281
+abbrev pub zeroRung : ℕ
+zeroRung = 8 * ladderDepth
+
+abbrev pub rungsAbove : ℕ
+rungsAbove = 8 * ladderTop
+
+abbrev pub lastRung : ℕ
+lastRung = zeroRung + rungsAbove
+
+-- the powers of ten, counted from the lowest, 10^-35: the literals of 10^(q - 9) for q from -26 to 40
+abbrev pub zeroTen : ℕ
+zeroTen = ladderDepth / 10 + 9
+
+abbrev pub tens : ℕ
+tens = (ladderDepth + ladderTop) / 10 + 1
