@@ -44,7 +44,7 @@ freshPower-is : freshPower ≡ round binary64 false 1 10000000000000000
 unfolding ofBits round
 freshPower-is = refl
 
--- ---- the ring, and a channel's part of the u16 store: ring, counts, next, filled, lead
+-- ---- the ring, and a channel's part of the u16 store: 250 ring, 320 counts, next, filled, lead, in all 573
 
 abbrev pub ringLen : ℕ
 ringLen = 250

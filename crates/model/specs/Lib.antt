@@ -22,3 +22,5 @@ pub mod Reach
 pub mod Demand3
 pub mod Sets
 pub mod Exports
+pub mod Segments
+pub mod Louder
