@@ -127,7 +127,8 @@ uint16_t wolfcloak_gate_new(uint16_t *gate, size_t gate_len, double *gate_f, siz
  * One hop, after the bank's update with the same hop: steps the smoothed dB and the windows, then writes for each channel 1 or 0
  * to rise and to drop, both n long. A channel rises where two whole windows of some length both reach the on level over its rise
  * floor and no neighbour within two channels is stronger, or where its smoothed dB reaches the early level over its effective
- * floor; it drops where its smoothed dB is below the off level over its effective floor.
+ * floor; it drops where its smoothed dB is below the off level over its effective floor. Between two eighths of a dB, the on level
+ * over the rise floor is the upper one.
  * Refuses with 2 or 9 for the bank's stores, then for the gate's, then 8, then 5.
  */
 uint16_t wolfcloak_gate_update(const uint16_t *bank, size_t bank_len, const double *bank_f, size_t bank_f_len,

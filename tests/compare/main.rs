@@ -14,6 +14,7 @@ mod layout;
 mod louder;
 mod numbers;
 mod rules;
+mod rungs;
 mod runs;
 mod sample;
 mod segments;
@@ -29,7 +30,7 @@ use tally::Tally;
 
 const SIZES: [usize; 13] = [1, 2, 3, 4, 5, 6, 31, 32, 33, 64, 65, 511, 512];
 
-/// Job i: the making of banks and gates and the dispatcher, two histories, two lists of which
+/// Job i: the making of banks and gates, the ladder and the dispatcher, two histories, two lists of which
 /// one is louder, arbitrary stores of some size, or a run of some size and plan.
 fn job(i: usize, seed: u64, alone: &mut Alone) -> Option<Tally> {
     let mut t = Tally::default();
@@ -41,6 +42,8 @@ fn job(i: usize, seed: u64, alone: &mut Alone) -> Option<Tally> {
         faults::any_settings(&mut t, &mut rng);
         history::no_call_too_many(&mut t);
         bottom::every_edge(&mut t);
+        rungs::each_rung(&mut t);
+        rungs::any_s(&mut t, &mut rng);
         segments::all_ticks(&mut t);
         segments::fair_runs(&mut t, &mut rng);
         louder::no_more(&mut t);

@@ -15,7 +15,7 @@ SUBSTITUTIONS = [
     # the spectral reference is linear in document 01: the minimum as it stands before the logarithm
     ("pub fn spectral_reference_db(", "pub fn spectral_reference("),
     ("        10.0 * m.log10()\n", "        m\n"),
-    # the ladder of document 01 stands in for powf
+    # the ladder of document 01, rounded upward as R-5 of document 02 has it, stands in for powf
     ("10.0_f64.powf((rise_floor + self.on_snr_db as f64) / 10.0)", "ladder(rise_floor + self.on_snr_db as f64)"),
 ]
 

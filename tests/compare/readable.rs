@@ -1,15 +1,24 @@
 // Put at the end of floor.rs: the ladder, and the fields as document 01 lays them out in the lent stores, and back.
 
-/// Document 01's ladder; T and TENS are written by oracle.py.
+/// Document 01's ladder, rounded upward as R-5 has it; T and TENS are written by oracle.py.
 pub fn ladder(s: f64) -> f64 {
     if s.is_nan() {
         return f64::NAN;
     }
-    let i = (8.0 * s.clamp(-260.0, 400.0)).floor() as i32;
+    let i = (8.0 * s.clamp(-260.0, 400.0)).ceil() as i32;
     let q = i.div_euclid(80);
     let j = i - 80 * q;
     T[j as usize] as f64 * TENS[(q + 26) as usize]
 }
+
+/// The value of rung r, an eighth of a dB each, from -260 dB to 400 dB.
+pub fn rung(r: usize) -> f64 {
+    T[r % 80] as f64 * TENS[r / 80]
+}
+
+/// 0 dB, and the highest.
+pub const ZERO_DB: usize = 2080;
+pub const TOP: usize = 5280;
 
 impl FloorBank {
     pub fn to_stores(&self) -> (Vec<u16>, Vec<f64>) {

@@ -1,7 +1,7 @@
 // The ladder's two tables.
 ghost use mathlib.Core.Path.{_≡_};
 ghost use Prim.Native.Nat.{_<_};
-ghost use Rattle.model.specs.Layout.{tens};
+ghost use Rattle.model.specs.Layout.{tensLen};
 ghost use Rattle.model.specs.Ladder.{rootOf, tenTo};
 use model::layout::TENS_LEN;
 
@@ -168,7 +168,7 @@ pub fn root(j: usize) -> u64
 }
 
 pub fn ten(q: usize) -> f64
-    requires { ⌜ q < tens ⌝ }
+    requires { ⌜ q < tensLen ⌝ }
     ensures { λ r. ⌜ r ≡ tenTo q ⌝ }
 {
     TENS[q]

@@ -36,12 +36,12 @@ pub record Between (z : Float) (top : ℕ) : Type 0 where
   pub small : toUnsigned 64 z ≤ top
 
 -- 0 is at most any magnitude
-nonneg : (u d : ℕ) → (ltb (0 * d) (u * 1) || (eqb (0 * d) (u * 1) && true)) ≡ true
+pub nonneg : (u d : ℕ) → (ltb (0 * d) (u * 1) || (eqb (0 * d) (u * 1) && true)) ≡ true
 nonneg zero d = simp zero-mul
 nonneg (suc u) d = simp (zero-mul, mul-one, lt-ltb 0 (suc u) (omega arith))
 
 -- a negative number that is 0 or more is -0
-minus-zero : (u d : ℕ) → (eqb (0 * d) (u * 1) && eqb (0 * d) 0) ≡ true → u ≡ 0
+pub minus-zero : (u d : ℕ) → (eqb (0 * d) (u * 1) && eqb (0 * d) 0) ≡ true → u ≡ 0
 minus-zero u d h =
     let k = eqb-true (0 * d) (u * 1) (and-l (eqb (0 * d) (u * 1)) (eqb (0 * d) 0) h) in
     omega (arith, k, zero-mul d)

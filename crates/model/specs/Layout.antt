@@ -84,8 +84,11 @@ settlingHops = decimationHops * ringLen
 abbrev pub ladderDepth : ℕ
 ladderDepth = 260
 
+abbrev pub ladderMinBits : ℕ
+ladderMinBits = 0xc070_4000_0000_0000
+
 abbrev pub ladderMin : Float
-ladderMin = ofBits binary64 0xc070_4000_0000_0000
+ladderMin = ofBits binary64 ladderMinBits
 
 ladderMin-is : ladderMin ≡ neg (round binary64 false ladderDepth 1)
 unfolding ofBits round neg
@@ -95,26 +98,26 @@ ladderMin-is = refl
 abbrev pub ladderTop : ℕ
 ladderTop = 400
 
+abbrev pub ladderMaxBits : ℕ
+ladderMaxBits = 0x4079_0000_0000_0000
+
 abbrev pub ladderMax : Float
-ladderMax = ofBits binary64 0x4079_0000_0000_0000
+ladderMax = ofBits binary64 ladderMaxBits
 
 ladderMax-is : ladderMax ≡ round binary64 false ladderTop 1
 unfolding ofBits round
 ladderMax-is = refl
 
--- rungs are counted from the lowest: where 0 dB stands, how many are above it, and the last of 5,281
-abbrev pub zeroRung : ℕ
-zeroRung = 8 * ladderDepth
+-- so many rungs are below 0 dB, and so many above: with that of 0 dB itself 5,281
+abbrev pub rungsBelow : ℕ
+rungsBelow = 8 * ladderDepth
 
 abbrev pub rungsAbove : ℕ
 rungsAbove = 8 * ladderTop
-
-abbrev pub lastRung : ℕ
-lastRung = zeroRung + rungsAbove
 
 -- the powers of ten, counted from the lowest, 10^-35: the literals of 10^(q - 9) for q from -26 to 40
 abbrev pub zeroTen : ℕ
 zeroTen = ladderDepth / 10 + 9
 
-abbrev pub tens : ℕ
-tens = (ladderDepth + ladderTop) / 10 + 1
+abbrev pub tensLen : ℕ
+tensLen = (ladderDepth + ladderTop) / 10 + 1

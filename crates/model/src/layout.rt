@@ -49,16 +49,14 @@ pub const LADDER_MIN_DB: f64 = -(LADDER_DEPTH as f64);
 
 pub const LADDER_MAX_DB: f64 = LADDER_TOP as f64;
 
-// Rungs are counted from the lowest.
-pub const ZERO_RUNG: usize = 8 * LADDER_DEPTH;
+// So many rungs below 0 dB, and so many above.
+pub const RUNGS_BELOW: usize = 8 * LADDER_DEPTH;
 
-pub const ZERO_RUNG_U16: u16 = ZERO_RUNG as u16;
-
-pub const BELOW_ZERO_RUNG: usize = ZERO_RUNG - 1;
+pub const RUNGS_BELOW_U16: u16 = RUNGS_BELOW as u16;
 
 pub const RUNGS_ABOVE_U16: u16 = 8 * LADDER_TOP as u16;
 
 pub const PAST_RUNGS_F64: f64 = (8 * LADDER_TOP + 1) as f64;
 
-// The powers of ten.
+// The powers of ten that the rungs need.
 pub const TENS_LEN: usize = (LADDER_DEPTH + LADDER_TOP) / 10 + 1;

@@ -2,7 +2,7 @@
 use borrow.Author.Needs.{needs}
 use lib.Ieee.{nan, ofBits, round}
 use Rattle.laws.proofs.Tabs.{getD-tab}
-use Rattle.model.specs.Layout.{tens}
+use Rattle.model.specs.Layout.{tensLen}
 use Rattle.model.specs.Ladder.{tenTo}
 use Rattle.ladder.proofs.tables.ten.Statement.{statement}
 use Rattle.ladder.proofs.tables.ten.Tie as tie
@@ -15,7 +15,7 @@ array-read-result c = search needs
 
 returns : tie.Need-returns
 unfolding ofBits round tenTo
-returns c = getD-tab tens tenTo (c .args .q) nan (c .pre)
+returns c = getD-tab tensLen tenTo (c .args .q) nan (c .pre)
 
 pub ten-spec : {M : Type 1} → statement M
 ten-spec = tie.close (tie.spec mul-result array-read-result returns)
