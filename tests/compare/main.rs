@@ -1,6 +1,7 @@
 // The library beside floor.rs: the same calls, every answer, store word and reading compared.
 //   compare [SEED [JOBS]]   compare, all jobs or the first JOBS; the last line has the counts; status 1 if there is a difference
 //   compare sample FILE     write the kept list of calls with floor.rs's answers (README.md)
+mod bottom;
 mod calls;
 #[path = "build/channelizer.rs"]
 mod channelizer;
@@ -9,6 +10,7 @@ mod faults;
 #[path = "build/floor.rs"]
 mod floor;
 mod history;
+mod layout;
 mod louder;
 mod numbers;
 mod pairs;
@@ -42,6 +44,7 @@ fn job(i: usize, seed: u64, alone: &mut Alone) -> Option<Tally> {
         faults::any_n(&mut t, &mut rng);
         faults::any_settings(&mut t, &mut rng);
         history::no_call_too_many(&mut t);
+        bottom::every_edge(&mut t);
         rungs::each_rung(&mut t);
         rungs::any_s(&mut t, &mut rng);
         segments::all_ticks(&mut t);

@@ -70,7 +70,7 @@ pub fn each_rung(t: &mut Tally) {
 pub fn any_s(t: &mut Tally, rng: &mut Rng) {
     let mut set = Set::new();
     for i in 0..200_000 {
-        let s = if i % 2 == 0 { any_f64(rng) } else { -250.0 + 660.0 * rng.unit() };
+        let s = if i % 2 == 0 { any_f64(rng) } else { -270.0 + 680.0 * rng.unit() };
         if !s.is_nan() {
             set.is(t, s, floor::ladder(s));
         }

@@ -1,4 +1,4 @@
--- The floor below 0 dB from one that is held to 0..3200, and that the roots are exact as f64. Assumes nothing.
+-- The floor below 0 dB from one that is held to 0..rungsAbove, and that the roots are exact as f64. Assumes nothing.
 use mathlib.Core.Path.{_≡_, refl}
 use mathlib.Core.Bool.{true, false}
 use Prim.Native.Nat.{ℕ, _<_, min}
@@ -8,8 +8,9 @@ use lib.Ieee.{Float, nan, inf, fin}
 use borrow.Author.Tests.{ltb-true}
 use Rattle.laws.specs.Tests.{allBelow}
 use Rattle.laws.proofs.Tests.{all-at}
+use Rattle.model.specs.Layout.{rungsBelow, rungsAbove}
 use Rattle.model.specs.Ring.{floorHeld}
-use Rattle.model.specs.Ladder.{rungsBelow, rungsAbove, rootOf}
+use Rattle.model.specs.Ladder.{rootOf}
 
 -- held to less
 pub held-less : (x : Float) → floorHeld rungsBelow x ≡ min (floorHeld rungsAbove x) rungsBelow

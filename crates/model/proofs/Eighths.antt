@@ -8,20 +8,14 @@ use lib.Dec.{T, leb, ltb, eqb, lit≤, lit<, ltb→lt, leb→le}
 use lib.Pow.{pow-add, pow-lt}
 use lib.IntN.{ℤ, pos, negsuc}
 use lib.Ieee.{Float, nan, inf, fin, up, down, binary64, neg, mul, lt, eq, isNan, fits, round, ofBits}
-use lib.Ieee.Fits.{down-pos, cond-fits, neg-fits, and-l, and-r}
+use lib.Ieee.Fits.{down-pos, cond-fits, and-l, and-r}
 use lib.Ieee.Bits.{ofBits-fits}
 use lib.Ieee.Exact.{HasValue, round-exact}
 use borrow.Author.Tests.{ltb-false, leb-true, leb-false, eq-eqb}
 use Rattle.laws.proofs.Tests.{clash, by-test}
-use Rattle.model.specs.Ladder.{f8, f240, f400, held, rungsBelow, rungsAbove}
+use Rattle.model.specs.Layout.{ladderDepth, ladderMinBits, ladderMin, ladderTop, ladderMaxBits, ladderMax, rungsBelow, rungsAbove}
+use Rattle.model.specs.Ladder.{f8, held}
 use Rattle.model.specs.Upward.{eightTimes, eighths, Exact}
-
--- the range in dB
-abbrev lowest : ℕ
-lowest = 240
-
-abbrev highest : ℕ
-highest = 400
 
 -- a number from -lo to hi
 abbrev pub In : ℕ → ℕ → Float → Type 0
@@ -32,27 +26,27 @@ In lo hi (fin false m e) = m * up e ≤ hi * down e
 
 -- ---- s as held is such a number, and an f64
 
-inside : (s : Float) → isNan s ≡ false → lt s (neg f240) ≡ false → lt f400 s ≡ false → In lowest highest s
+inside : (s : Float) → isNan s ≡ false → lt s ladderMin ≡ false → lt ladderMax s ≡ false → In ladderDepth ladderTop s
 unfolding isNan neg lt ofBits
 inside nan n a b = clash n
 inside (inf true) n a b = clash a
 inside (inf false) n a b = clash b
-inside (fin true m e) n a b = omega (arith, ltb-false (lowest * down e) (m * up e * 1) a)
-inside (fin false m e) n a b = omega (arith, ltb-false (highest * down e) (m * up e * 1) b)
+inside (fin true m e) n a b = omega (arith, ltb-false (ladderDepth * down e) (m * up e * 1) a)
+inside (fin false m e) n a b = omega (arith, ltb-false (ladderTop * down e) (m * up e * 1) b)
 
-pub held-in : (s : Float) → isNan s ≡ false → In lowest highest (held s)
+pub held-in : (s : Float) → isNan s ≡ false → In ladderDepth ladderTop (held s)
 unfolding neg ofBits
-held-in s n = go (lt s (neg f240)) (lt f400 s) refl refl
+held-in s n = go (lt s ladderMin) (lt ladderMax s) refl refl
   where
-    go : (b c : Bool) → lt s (neg f240) ≡ b → lt f400 s ≡ c → In lowest highest (cond b (neg f240) (cond c f400 s))
+    go : (b c : Bool) → lt s ladderMin ≡ b → lt ladderMax s ≡ c → In ladderDepth ladderTop (cond b ladderMin (cond c ladderMax s))
     go true c p q = lit≤ tt
     go false true p q = lit≤ tt
     go false false p q = inside s n p q
 
 pub held-fits : (s : Float) → T (fits binary64 s) → T (fits binary64 (held s))
 held-fits s h =
-    cond-fits binary64 (lt s (neg f240)) (neg f240) (cond (lt f400 s) f400 s) (neg-fits binary64 f240 (ofBits-fits binary64 0x406e_0000_0000_0000))
-    (cond-fits binary64 (lt f400 s) f400 s (ofBits-fits binary64 0x4079_0000_0000_0000) h)
+    cond-fits binary64 (lt s ladderMin) ladderMin (cond (lt ladderMax s) ladderMax s) (ofBits-fits binary64 ladderMinBits)
+    (cond-fits binary64 (lt ladderMax s) ladderMax s (ofBits-fits binary64 ladderMaxBits) h)
 
 -- ---- 8 × s
 
@@ -86,7 +80,7 @@ weigh : (m a d u p : ℕ) → a * d ≡ 8 * u * p → m * a * d ≡ 8 * (m * u) 
 weigh m a d u p h = mul-assoc m a d ∙ ap (λ (x : ℕ). m * x) h ∙ simp (mul-assoc, mul-left-comm)
 
 -- by its sign, its numerator and its denominator as `mul` writes them
-rounds : (t : Bool) (m : ℕ) (e : ℤ) (num den : ℕ) → num ≡ 8 * (m * up e) → den ≡ down e → T (fits binary64 (fin t m e)) → m * up e ≤ highest * down e
+rounds : (t : Bool) (m : ℕ) (e : ℤ) (num den : ℕ) → num ≡ 8 * (m * up e) → den ≡ down e → T (fits binary64 (fin t m e)) → m * up e ≤ ladderTop * down e
     → HasValue (round binary64 t num den) t (8 * (m * up e)) (down e)
 rounds t zero e num den n d h b =
     let z : num ≡ 0 = n ∙ ap (λ (x : ℕ). 8 * x) (zero-mul (up e)) in
@@ -96,11 +90,11 @@ rounds t (suc m) e num den n d h b =
     let j = shift 1074 e (k .1) in
     let w = weigh (suc m) (2 ^ j .0) (down e) (up e) (2 ^ 1074) (j .1) in
     let dp : 0 < den = subst (λ (x : ℕ). 0 < x) (sym d) (down-pos e) in
-    let room : 8 * highest * 2 ^ 1074 < 2 ^ 2098 = lit< tt in
-    let small = lt-of-le-of-lt (far (suc m * 2 ^ j .0) (suc m * up e) (down e) (2 ^ 1074) highest (down-pos e) w b) room in
+    let room : 8 * ladderTop * 2 ^ 1074 < 2 ^ 2098 = lit< tt in
+    let small = lt-of-le-of-lt (far (suc m * 2 ^ j .0) (suc m * up e) (down e) (2 ^ 1074) ladderTop (down-pos e) w b) room in
     rw (← n, ← d) (round-exact binary64 t num den (suc m) (j .0) dp (k .0) small (rw (n, d) (sym w)))
 
-pub product : (t : Bool) (m : ℕ) (e : ℤ) → T (fits binary64 (fin t m e)) → m * up e ≤ highest * down e → HasValue (mul binary64 f8 (fin t m e)) t (8 * (m * up e)) (down e)
+pub product : (t : Bool) (m : ℕ) (e : ℤ) → T (fits binary64 (fin t m e)) → m * up e ≤ ladderTop * down e → HasValue (mul binary64 f8 (fin t m e)) t (8 * (m * up e)) (down e)
 unfolding ofBits mul
 product true m e h b = rounds true m e (8 * (m * up e)) (1 * down e) refl (one-mul (down e)) h b
 product false m e h b = rounds false m e (8 * (m * up e)) (1 * down e) refl (one-mul (down e)) h b
@@ -125,15 +119,15 @@ wide (fin true n d) lo hi false m e v h = clash (v .0)
 wide (fin false n d) lo hi true m e v h = clash (sym (v .0))
 wide (fin false n d) lo hi false m e v h = far (n * up d) (m * up e) (down e) (down d) hi (down-pos e) (v .1) h
 
--- a number of the range is at most as large as the highest
-size-of : (t : Bool) (m : ℕ) (e : ℤ) → In lowest highest (fin t m e) → m * up e ≤ highest * down e
+-- a number of the range is at most as large as the ladderTop
+size-of : (t : Bool) (m : ℕ) (e : ℤ) → In ladderDepth ladderTop (fin t m e) → m * up e ≤ ladderTop * down e
 size-of true m e h = omega arith
 size-of false m e h = h
 
 pub exact : Exact
 exact s f n = go (held s) (held-fits s f) (held-in s n)
   where
-    go : (h : Float) → T (fits binary64 h) → In lowest highest h → eq (mul binary64 f8 h) (eightTimes h) ≡ true
+    go : (h : Float) → T (fits binary64 h) → In ladderDepth ladderTop h → eq (mul binary64 f8 h) (eightTimes h) ≡ true
     go nan f i = absurd i
     go (inf t) f i = absurd i
     go (fin t m e) f i = same (mul binary64 f8 (fin t m e)) t m e (product t m e f (size-of t m e i))
@@ -141,7 +135,7 @@ exact s f n = go (held s) (held-fits s f) (held-in s n)
 pub eighths-in : (s : Float) → T (fits binary64 s) → isNan s ≡ false → In rungsBelow rungsAbove (eighths s)
 eighths-in s f n = go (held s) (held-fits s f) (held-in s n)
   where
-    go : (h : Float) → T (fits binary64 h) → In lowest highest h → In rungsBelow rungsAbove (mul binary64 f8 h)
+    go : (h : Float) → T (fits binary64 h) → In ladderDepth ladderTop h → In rungsBelow rungsAbove (mul binary64 f8 h)
     go nan f i = absurd i
     go (inf t) f i = absurd i
-    go (fin t m e) f i = wide (mul binary64 f8 (fin t m e)) lowest highest t m e (product t m e f (size-of t m e i)) i
+    go (fin t m e) f i = wide (mul binary64 f8 (fin t m e)) ladderDepth ladderTop t m e (product t m e f (size-of t m e i)) i

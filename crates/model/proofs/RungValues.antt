@@ -15,7 +15,8 @@ use lib.Ieee.Positive.{positive, num, den, den-pos, own-value, positive-of-value
 use borrow.Author.Tests.{leb-true, ltb-true, ltb-false}
 use Rattle.laws.specs.Tests.{allBelow}
 use Rattle.laws.proofs.Tests.{all-at, and-l, and-r, by-test}
-use Rattle.model.specs.Ladder.{rootOf, tenTo, rungsBelow, rungsAbove, rungValue}
+use Rattle.model.specs.Layout.{rungsBelow, rungsAbove}
+use Rattle.model.specs.Ladder.{rootOf, tenTo, rungValue}
 use Rattle.model.proofs.Bins.{holds}
 
 -- the ladder has so many times ten dB

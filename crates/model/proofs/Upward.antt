@@ -15,8 +15,9 @@ use lib.Ieee.Bits.{is-true}
 use borrow.Author.Tests.{lt-ltb, le-ltb, le-leb, lt-leb, eq-eqb, eqb-true, leb-true, leb-false}
 use Rattle.laws.proofs.Tests.{clash, by-test, and-l}
 use Rattle.model.specs.Numbers.{f0}
+use Rattle.model.specs.Layout.{rungsBelow, rungsAbove}
 use Rattle.model.specs.Ring.{floorHeld}
-use Rattle.model.specs.Ladder.{rungsBelow, rungsAbove, ceilHeld, rung, rungValue, ladder}
+use Rattle.model.specs.Ladder.{ceilHeld, rung, rungValue, ladder}
 use Rattle.model.specs.LadderBefore.{rungBefore, ladderBefore}
 use Rattle.model.specs.Upward.{whole, eighths, LeastAt, Least, OnARung, NeverBelow}
 use Rattle.model.proofs.Bins.{nonneg}

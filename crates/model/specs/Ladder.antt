@@ -8,6 +8,7 @@ use lib.ListN.{getD}
 use lib.IntN.{pos}
 use lib.Ieee.{Float, nan, inf, fin, up, down, binary64, neg, mul, lt, isNan, ofInt, ofBits, round}
 use Rattle.laws.specs.Tests.{allBelow}
+use Rattle.model.specs.Layout.{ladderMin, ladderMax, rungsBelow, rungsAbove, zeroTen}
 use Rattle.model.specs.Ring.{floorHeld}
 
 -- T: 80 whole numbers
@@ -26,9 +27,9 @@ pub roots-right : allBelow 80 (λ j. isRoot j (rootOf j)) ≡ true
 unfolding allBelow rootOf
 roots-right = refl
 
--- the literal of 10^(q - 33)
+-- the literal of 10^(q - zeroTen)
 unfoldable pub tenTo : ℕ → Float
-tenTo q = cond (ltb q 33) (round binary64 false 1 (10 ^ (33 - q))) (round binary64 false (10 ^ (q - 33)) 1)
+tenTo q = cond (ltb q zeroTen) (round binary64 false 1 (10 ^ (zeroTen - q))) (round binary64 false (10 ^ (q - zeroTen)) 1)
 
 abbrev pub f8 : Float
 f8 = ofBits binary64 0x4020_0000_0000_0000
@@ -37,30 +38,9 @@ f8-is : f8 ≡ round binary64 false 8 1
 unfolding ofBits round
 f8-is = refl
 
-abbrev pub f240 : Float
-f240 = ofBits binary64 0x406e_0000_0000_0000
-
-f240-is : f240 ≡ round binary64 false 240 1
-unfolding ofBits round
-f240-is = refl
-
-abbrev pub f400 : Float
-f400 = ofBits binary64 0x4079_0000_0000_0000
-
-f400-is : f400 ≡ round binary64 false 400 1
-unfolding ofBits round
-f400-is = refl
-
--- s held to -240..400
+-- s held to ladderMin..ladderMax
 abbrev pub held : Float → Float
-held s = cond (lt s (neg f240)) (neg f240) (cond (lt f400 s) f400 s)
-
--- the same range in eighths of a dB: so many rungs below 0 dB, and so many above
-abbrev pub rungsBelow : ℕ
-rungsBelow = 1920
-
-abbrev pub rungsAbove : ℕ
-rungsAbove = 3200
+held s = cond (lt s ladderMin) ladderMin (cond (lt ladderMax s) ladderMax s)
 
 -- the least whole number not below x, held to 0..top; NaN gives 0
 unfoldable pub ceilHeld : ℕ → Float → ℕ
@@ -70,11 +50,11 @@ ceilHeld top (inf false) = top
 ceilHeld top (fin true m e) = 0
 ceilHeld top (fin false m e) = min ((m * up e + (down e - 1)) / down e) top
 
--- R-5: i + 1920, where i is the least whole number not below z, for z from -1920 to 3200. Below 0 that is what the floor of -z says
+-- R-5: i + rungsBelow, where i is the least whole number not below z, for z from -rungsBelow to rungsAbove. Below 0 that is what the floor of -z says
 unfoldable pub rung : Float → ℕ
 rung z = rungsBelow + ceilHeld rungsAbove z - floorHeld rungsBelow (neg z)
 
--- T[j] times the literal of 10^(q - 9), rounded once, for the rung i + 1920 = 80 (q + 24) + j
+-- T[j] times the literal of 10^(q - 9), rounded once, for the rung i + rungsBelow = 80 (q + zeroTen - 9) + j
 unfoldable pub rungValue : ℕ → Float
 rungValue r = mul binary64 (ofInt binary64 (pos (rootOf (r % 80)))) (tenTo (r / 80))
 

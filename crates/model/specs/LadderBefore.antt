@@ -4,14 +4,15 @@ use Prim.Native.Nat.{ℕ, _+_, _-_}
 use lib.IntN.{pos}
 use lib.Ieee.{Float, nan, binary64, neg, mul, le, eq, isNan, ofInt}
 use Rattle.model.specs.Numbers.{f0}
+use Rattle.model.specs.Layout.{rungsBelow, rungsAbove}
 use Rattle.model.specs.Ring.{floorHeld}
-use Rattle.model.specs.Ladder.{f8, held, rungsBelow, rungsAbove, rungValue}
+use Rattle.model.specs.Ladder.{f8, held, rungValue}
 
--- the floor of a negative z, of which t is the whole part of -z: -t, or one less where that cuts something off; 1920 is added
+-- the floor of a negative z, of which t is the whole part of -z: -t, or one less where that cuts something off; rungsBelow is added
 abbrev pub floorBelow : ℕ → Float → ℕ
 floorBelow t x = cond (eq (ofInt binary64 (pos t)) x) (rungsBelow - t) (rungsBelow - (t + 1))
 
--- floor(z) + 1920, for z from -1920 to 3200
+-- floor(z) + rungsBelow, for z from -rungsBelow to rungsAbove
 unfoldable pub rungBefore : Float → ℕ
 rungBefore z = cond (le f0 z) (rungsBelow + floorHeld rungsAbove z) (floorBelow (floorHeld rungsBelow (neg z)) (neg z))
 

@@ -1,4 +1,5 @@
 pub mod Numbers
+pub mod Layout
 pub mod Ring
 pub mod Bank
 pub mod Stores

@@ -7,8 +7,9 @@ use Prim.Native.Nat.{ℕ, suc, _+_, _-_, _*_, _≤_}
 use lib.Dec.{T}
 use lib.IntN.{ℤ, pos, negsuc}
 use lib.Ieee.{Float, nan, inf, fin, binary64, neg, mul, lt, le, eq, isNan, fits, minus, ofBits, round}
+use Rattle.model.specs.Layout.{ladderMinBits, ladderMaxBits, rungsBelow, rungsAbove}
 use Rattle.model.specs.Ring.{floorHeld}
-use Rattle.model.specs.Ladder.{f8, held, rungsBelow, rungsAbove, ceilHeld, rung, ladder}
+use Rattle.model.specs.Ladder.{f8, held, ceilHeld, rung, ladder}
 use Rattle.model.specs.LadderBefore.{ladderBefore}
 
 -- the whole number i, and 8 times a number: written down, not rounded
@@ -29,7 +30,7 @@ eighths s = mul binary64 f8 (held s)
 abbrev pub Exact : Type 0
 Exact = (s : Float) → T (fits binary64 s) → isNan s ≡ false → eq (eighths s) (eightTimes (held s)) ≡ true
 
--- The rung is the least one: i - 1 < 8s ≤ i, for the rung i + 1920
+-- The rung is the least one: i - 1 < 8s ≤ i, for the rung i + rungsBelow
 pub record LeastAt (z : Float) (r : ℕ) : Type 0 where
   pub on-the-ladder : r ≤ rungsBelow + rungsAbove
   pub not-below : le z (whole (minus r rungsBelow)) ≡ true
@@ -64,15 +65,15 @@ edges =
     ∷ (0xbfc0_0000_0000_0000, rungsBelow - 1)
     ∷ (0xbfbf_ffff_ffff_ffff, rungsBelow)
     ∷ (0xbfc0_0000_0000_0001, rungsBelow - 1)
-    -- -240 dB, the next f64 inside and the next outside; and the infinity beyond
-    ∷ (0xc06e_0000_0000_0000, 0)
-    ∷ (0xc06d_ffff_ffff_ffff, 1)
-    ∷ (0xc06e_0000_0000_0001, 0)
+    -- the lowest rung, the next f64 inside and the next outside; and the infinity beyond
+    ∷ (ladderMinBits, 0)
+    ∷ (ladderMinBits - 1, 1)
+    ∷ (ladderMinBits + 1, 0)
     ∷ (0xfff0_0000_0000_0000, 0)
-    -- 400 dB, the same
-    ∷ (0x4079_0000_0000_0000, rungsBelow + rungsAbove)
-    ∷ (0x4078_ffff_ffff_ffff, rungsBelow + rungsAbove)
-    ∷ (0x4079_0000_0000_0001, rungsBelow + rungsAbove)
+    -- the highest, the same
+    ∷ (ladderMaxBits, rungsBelow + rungsAbove)
+    ∷ (ladderMaxBits - 1, rungsBelow + rungsAbove)
+    ∷ (ladderMaxBits + 1, rungsBelow + rungsAbove)
     ∷ (0x7ff0_0000_0000_0000, rungsBelow + rungsAbove)
     ∷ []
 

@@ -1,7 +1,7 @@
 -- R-5: at the top, a step up, and a whole number. Assumes nothing.
 use native.Mathlib.Omega.{arith}
 use lib.Dec.{lit≤}
-use Rattle.model.specs.Ladder.{rungsAbove}
+use Rattle.model.specs.Layout.{rungsAbove}
 use Rattle.model.proofs.Ceilings.{at-top, steps-up, stays}
 use borrow.Author.Needs.{needs}
 use Rattle.ladder.proofs.ceil_held.Statement.{statement}

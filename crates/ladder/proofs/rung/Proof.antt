@@ -1,7 +1,8 @@
 -- R-5: above 0 dB the ceiling, below it the floor of what is as far above. Assumes nothing.
 use native.Mathlib.Omega.{arith}
 use lib.Ieee.{neg}
-use Rattle.model.specs.Ladder.{rungsBelow, rungsAbove, rung}
+use Rattle.model.specs.Layout.{rungsBelow, rungsAbove}
+use Rattle.model.specs.Ladder.{rung}
 use Rattle.model.proofs.Ceilings.{ceil-none, floor-none}
 use Rattle.ladder.proofs.Rungs.{held-less}
 use borrow.Author.Needs.{needs}
