@@ -7,11 +7,11 @@ ghost use lib.Dec.{ltb};
 ghost use Rattle.model.specs.Numbers.{fmin, fmax};
 ghost use Rattle.model.specs.Bank.{seedOf, notBelow, effectiveFloor, riseFloor};
 
-const SEED_PUSHES: u16 = 25;
+pub const SEED_PUSHES: u16 = 25;
 
-const RING_LEN: u16 = 250;
+pub const RING_LEN: u16 = 250;
 
-const BLOCK_ALLOWANCE_DB: f64 = 3.0;
+pub const BLOCK_ALLOWANCE_DB: f64 = 3.0;
 
 const SEED_OFFSET_DB: f64 = 3.8;
 
@@ -34,6 +34,12 @@ pub fn greatest(a: f64, b: f64) -> f64
     if a < b { b } else { a }
 }
 
+pub fn seed(pushes: u16, sum: f64) -> f64
+    ensures { λ r. ⌜ r ≡ seedOf pushes sum ⌝ }
+{
+    sum / (pushes as f64) - SEED_OFFSET_DB
+}
+
 // The seed is worked out only where there is one, so nothing is divided by 0.
 fn not_below_seed(x: f64, early: bool, pushes: u16, sum: f64) -> f64
     ensures { λ r. ⌜ r ≡ notBelow (early && ltb 0 pushes) x (seedOf pushes sum) ⌝ }
@@ -44,7 +50,7 @@ fn not_below_seed(x: f64, early: bool, pushes: u16, sum: f64) -> f64
     if pushes == 0 {
         return x;
     }
-    greatest(x, sum / (pushes as f64) - SEED_OFFSET_DB)
+    greatest(x, seed(pushes, sum))
 }
 
 pub fn effective_floor(usable: f64, block_floor: f64, since: u16, pushes: u16, sum: f64) -> f64

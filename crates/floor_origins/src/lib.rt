@@ -1,0 +1,84 @@
+// Document 02, R-4: which rule yields a floor, from the five numbers that a channel's floors come from.
+use block::BLOCK_ALLOWANCE_DB;
+use block::RING_LEN;
+use block::SEED_PUSHES;
+
+ghost use mathlib.Core.Path.{_≡_};
+ghost use mathlib.Core.Bool.{_&&_};
+ghost use lib.Dec.{ltb};
+ghost use Rattle.model.specs.Bank.{seedOf};
+ghost use Rattle.origins.specs.Origins.{laterOfMin, laterOfMax, seedNamed, effectiveOrigin, riseOrigin};
+
+// Whether the later side b of a minimum, or of a maximum, is the one to name. Of equal sides and of two NaNs the earlier is; a NaN that is
+// passed over is not (`a != a` holds of a NaN only, `b == b` of any other float).
+fn later_of_min(a: f64, b: f64) -> bool
+    ensures { λ r. ⌜ r ≡ laterOfMin a b ⌝ }
+{
+    if a != a {
+        return b == b;
+    }
+    b < a
+}
+
+fn later_of_max(a: f64, b: f64) -> bool
+    ensures { λ r. ⌜ r ≡ laterOfMax a b ⌝ }
+{
+    if a != a {
+        return b == b;
+    }
+    a < b
+}
+
+// The seed is asked only where its test holds.
+fn seed_named(x: f64, early: bool, pushes: u16, sum: f64) -> bool
+    ensures { λ r. ⌜ r ≡ seedNamed (early && ltb 0 pushes) x (seedOf pushes sum) ⌝ }
+{
+    if !early {
+        return false;
+    }
+    if pushes == 0 {
+        return false;
+    }
+    later_of_max(x, block::seed(pushes, sum))
+}
+
+pub fn effective_origin(
+    usable: f64,
+    block_floor: f64,
+    since: u16,
+    pushes: u16,
+    sum: f64,
+) -> origins::EffectiveOrigin
+    ensures { λ r. ⌜ r ≡ effectiveOrigin usable «block_floor» since pushes sum ⌝ }
+{
+    let plus_3 = block_floor + BLOCK_ALLOWANCE_DB;
+    let lower = block::least(usable, plus_3);
+    if seed_named(lower, since < SEED_PUSHES, pushes, sum) {
+        return origins::EffectiveOrigin::Seed(block::seed(pushes, sum));
+    }
+    if later_of_min(usable, plus_3) {
+        return origins::EffectiveOrigin::BlockPlus3(plus_3);
+    }
+    origins::EffectiveOrigin::OwnQuartile(usable)
+}
+
+// The rise floor is worked out, never taken as it is stored.
+pub fn rise_origin(
+    usable: f64,
+    block_floor: f64,
+    since: u16,
+    pushes: u16,
+    sum: f64,
+) -> origins::RiseOrigin
+    ensures { λ r. ⌜ r ≡ riseOrigin usable «block_floor» since pushes sum ⌝ }
+{
+    let effective = block::effective_floor(usable, block_floor, since, pushes, sum);
+    let risen = block::greatest(effective, block_floor);
+    if seed_named(risen, since < RING_LEN, pushes, sum) {
+        return origins::RiseOrigin::Seed(block::seed(pushes, sum));
+    }
+    if later_of_max(effective, block_floor) {
+        return origins::RiseOrigin::Block(block_floor);
+    }
+    origins::RiseOrigin::EffectiveFloor(effective)
+}
