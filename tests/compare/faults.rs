@@ -252,7 +252,7 @@ pub fn any_words(t: &mut Tally, l: &Lent, rng: &mut Rng, times: usize) {
 }
 
 /// A bank that is sound and nothing more, with any floats.
-fn any_bank(n: usize, rng: &mut Rng) -> (Vec<u16>, Vec<f64>) {
+pub fn any_bank(n: usize, rng: &mut Rng) -> (Vec<u16>, Vec<f64>) {
     let (mut u, mut f) = FloorBank::new(n).to_stores();
     let blocks = n.div_ceil(32);
     u[1] = rng.pick(&[0, 0, 0, 1, 7, 14]);

@@ -1,4 +1,5 @@
 // What was compared, and the first differences.
+use crate::explain::Seen;
 use crate::numbers::same;
 use std::fmt::Arguments;
 
@@ -9,6 +10,8 @@ pub struct Tally {
     pub drops: u64,
     /// pairs of histories whose floors, and whose rises, differed for a while
     pub parted: [u64; 2],
+    /// what explanations named, and of what sides
+    pub seen: Seen,
     pub compared: u64,
     pub differences: u64,
     pub first: Vec<String>,
@@ -56,6 +59,7 @@ impl Tally {
         self.rises += other.rises;
         self.drops += other.drops;
         (0..2).for_each(|i| self.parted[i] += other.parted[i]);
+        self.seen.iter_mut().zip(other.seen).for_each(|(all, more)| *all += more);
         self.compared += other.compared;
         self.differences += other.differences;
         self.first.extend(other.first);

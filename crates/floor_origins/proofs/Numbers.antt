@@ -11,3 +11,7 @@ twice false = refl
 pub eq-self : (x : Float) → eq x x ≡ not (isNan x)
 unfolding ne
 eq-self x = sym (twice (eq x x)) ∙ ap not (ne-self x)
+
+-- what a test whether x is a number has found, turned round
+pub nan-is : (x : Float) (r t : Bool) → r ≡ not (isNan x) → not r ≡ t → isNan x ≡ t
+nan-is x r t e h = sym (twice (isNan x)) ∙ ap not (sym e) ∙ h

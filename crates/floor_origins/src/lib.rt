@@ -4,18 +4,26 @@ use block::RING_LEN;
 use block::SEED_PUSHES;
 
 ghost use mathlib.Core.Path.{_≡_};
-ghost use mathlib.Core.Bool.{_&&_};
+ghost use mathlib.Core.Bool.{not, _&&_};
 ghost use lib.Dec.{ltb};
+ghost use lib.Ieee.{isNan};
 ghost use Rattle.model.specs.Bank.{seedOf};
 ghost use Rattle.origins.specs.Origins.{laterOfMin, laterOfMax, seedNamed, effectiveOrigin, riseOrigin};
 
-// Whether the later side b of a minimum, or of a maximum, is the one to name. Of equal sides and of two NaNs the earlier is; a NaN that is
-// passed over is not (`a != a` holds of a NaN only, `b == b` of any other float).
+// A NaN is the one float that does not equal itself.
+fn is_number(x: f64) -> bool
+    ensures { λ r. ⌜ r ≡ not (isNan x) ⌝ }
+{
+    x == x
+}
+
+// Whether the later side b of a minimum is the one to name, and of a maximum. Of equal sides and of two NaNs the earlier is; a NaN that is
+// passed over is not.
 fn later_of_min(a: f64, b: f64) -> bool
     ensures { λ r. ⌜ r ≡ laterOfMin a b ⌝ }
 {
-    if a != a {
-        return b == b;
+    if !is_number(a) {
+        return is_number(b);
     }
     b < a
 }
@@ -23,8 +31,8 @@ fn later_of_min(a: f64, b: f64) -> bool
 fn later_of_max(a: f64, b: f64) -> bool
     ensures { λ r. ⌜ r ≡ laterOfMax a b ⌝ }
 {
-    if a != a {
-        return b == b;
+    if !is_number(a) {
+        return is_number(b);
     }
     a < b
 }

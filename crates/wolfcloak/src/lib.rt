@@ -1,4 +1,5 @@
 // The C interface: each call of the bank, and in gate_rows each of the gate, in a form that C can pass. An enum, a struct or a returned part is taken apart by `answers`.
+pub mod explain_row;
 pub mod gate_rows;
 
 ghost use mathlib.Core.Path.{_≡_};
