@@ -78,13 +78,15 @@ pub fn any_sides(t: &mut Tally, n: usize, rng: &mut Rng) {
     let blocks = n.div_ceil(32);
     for block in 0..blocks {
         let pushes = u[3 + block] as f64;
-        let sum = rng.pick(&[3.8 * pushes, -80.0 * pushes, any_f64(rng), f64::NAN, f64::INFINITY]);
+        let odd = [any_f64(rng), any_f64(rng)];
+        let sum = rng.pick(&[3.8 * pushes, -80.0 * pushes, odd[0], f64::NAN, f64::INFINITY]);
         let seed = sum / pushes - 3.8;
-        let floor = rng.pick(&[seed, seed - 3.0, -3.0, -0.0, 0.0, -90.0, any_f64(rng), f64::NAN, f64::NEG_INFINITY]);
+        let floor = rng.pick(&[seed, seed - 3.0, -3.0, -0.0, 0.0, -90.0, odd[1], f64::NAN, f64::NEG_INFINITY]);
         f[4 * n + block] = floor;
         f[4 * n + blocks + block] = sum;
         for k in 32 * block..n.min(32 * block + 32) {
-            f[n + k] = rng.pick(&[floor + 3.0, floor, seed, -0.0, 0.0, any_f64(rng), f64::NAN, (floor + 3.0).next_up()]);
+            let odd = any_f64(rng);
+            f[n + k] = rng.pick(&[floor + 3.0, floor, seed, -0.0, 0.0, odd, f64::NAN, (floor + 3.0).next_up()]);
         }
     }
     for k in 0..n {
