@@ -64,7 +64,7 @@ explainLine hop x =
     right 8 (decimal hop)
     ∷ right 10 (secondsText hop)
     ∷ right 11 (dbText (effectiveDb (x .effective)))
-    ∷ right 14 (effectiveName (x .effective))
+    ∷ right 16 (effectiveName (x .effective))
     ∷ right 12 (dbText (riseDb (x .rise)))
     ∷ right 17 (riseName (x .rise))
     ∷ []
@@ -85,7 +85,7 @@ channelFloors k f =
 
 -- where the effective floor comes from, and where the rise floor
 abbrev pub originsColumn : Explanation → List (List ℕ)
-originsColumn x = right 14 (effectiveName (x .effective)) ∷ ascii "," ∷ right 16 (riseName (x .rise)) ∷ []
+originsColumn x = right 16 (effectiveName (x .effective)) ∷ ascii "," ∷ right 16 (riseName (x .rise)) ∷ []
 
 -- seconds alive, rises, whether it is alive
 abbrev pub channelEnd : ℕ → ℕ → Bool → List (List ℕ)

@@ -19,7 +19,7 @@ pub fn put_explain_line(line: &mut [u8; LINE], hop: u64, x: Explanation) -> usiz
     let at = put_number(line, 0, hop, 8);
     let at = put_seconds(line, at, hop, 10);
     let at = put_db(line, at, origins::effective_db(effective), 11);
-    let at = put_effective_origin(line, at, effective, 14);
+    let at = put_effective_origin(line, at, effective, 16);
     let at = put_db(line, at, origins::rise_db(rise), 12);
     put_rise_origin(line, at, rise, 17)
 }
@@ -30,7 +30,7 @@ pub fn put_origins(line: &mut [u8; LINE], at: usize, x: Explanation) -> usize
 {
     let effective = x.effective;
     let rise = x.rise;
-    let at = put_effective_origin(line, at, effective, 14);
+    let at = put_effective_origin(line, at, effective, 16);
     let at = put_text(line, at, b",");
     put_rise_origin(line, at, rise, 16)
 }
