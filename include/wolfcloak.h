@@ -36,6 +36,10 @@ extern "C" {
 #define WOLFCLOAK_REFUSED_CHANNEL 7    /* channel number n or more */
 #define WOLFCLOAK_REFUSED_MISMATCH 8   /* bank and gate differ in n */
 #define WOLFCLOAK_REFUSED_UNSOUND 9    /* a store doesn't hold what these calls can leave in one */
+#define WOLFCLOAK_REFUSED_SEGMENTS 14  /* a tick: count outside 1..8, a bit set past count, or a last served not below count */
+
+/* An answer that is no refusal, with which nothing is written either. */
+#define WOLFCLOAK_NONE_WAITING 102     /* a tick: no segment has a hop waiting */
 
 /* ---- the bank: a noise floor for each of n channels, 1 to 512 ---- */
 
@@ -162,6 +166,23 @@ uint16_t wolfcloak_smoothed_db(const uint16_t *gate, size_t gate_len, const doub
 uint16_t wolfcloak_ema_rise(const uint16_t *bank, size_t bank_len, const double *bank_f, size_t bank_f_len,
                             const uint16_t *gate, size_t gate_len, const double *gate_f, size_t gate_f_len,
                             size_t k, double *value);
+
+/* ---- several band segments, 1 to 8, each with a bank and a gate of its own, on one processor ---- */
+
+/*
+ * One tick: names the segment whose hop is heard next. Bit i of waiting is 1 where segment i has a hop waiting. The named one is
+ * the first of these after the last served, going round; so a segment that is waiting at count ticks in a row is served in one of
+ * them, whatever the others do.
+ *
+ * The caller keeps one number for all segments, last, which is count - 1 at first, so that segment 0 comes first. At each tick it
+ *   - sets the bit of each segment that has a hop waiting, and hands in the same count and the number that the tick before left;
+ *   - where the answer is 0: makes the bank update and the gate update of segment *last with its hop, on that segment's stores;
+ *     the hop waits no longer, and if it is refused there it counts as served all the same;
+ *   - where the answer is WOLFCLOAK_NONE_WAITING: has nothing to do, and *last is what it was.
+ *
+ * Refuses with 14, also where none is waiting: count outside 1..8, a set bit numbered count or more, or *last not below count.
+ */
+uint16_t wolfcloak_dispatch(size_t count, uint8_t waiting, size_t *last);
 
 #ifdef __cplusplus
 }

@@ -48,7 +48,7 @@ length-smooth : (b : FloorBank) (h : Hop) → length (smoothAfter b h) ≡ b .n
 unfolding smoothAfter
 length-smooth b h = length-tab (b .n) _
 
-channel-slow : (b : FloorBank) (h : Hop) (k : ℕ) → k < b .n → channel (slowStep b h) k ≡ channelAfter (b .chans) (seedsAfter b (h .db)) (h .db) k
+pub channel-slow : (b : FloorBank) (h : Hop) (k : ℕ) → k < b .n → channel (slowStep b h) k ≡ channelAfter (b .chans) (seedsAfter b (h .db)) (h .db) k
 unfolding slowStep chansAfter
 channel-slow b h k l = getD-tab (b .n) (channelAfter (b .chans) (seedsAfter b (h .db)) (h .db)) k freshChannel l
 
@@ -58,7 +58,7 @@ seeds-slow b db g i l =
     rw (getD-tab (blocks (b .n)) (λ i. getD (b .seeds) i 0 + one (takesSeed (getD (b .seeds) i 0) (median (block i db)))) i 0 l)
     (seed-small (getD (b .seeds) i 0) (median (block i db)) (g .seeds-small i l))
 
-good-slow : (b : FloorBank) (h : Hop) → Good b → Good (slowStep b h)
+pub good-slow : (b : FloorBank) (h : Hop) → Good b → Good (slowStep b h)
 unfolding slowStep seedsAfter sumsAfter chansAfter rawFloors usableFloors blockFloors riseFloors
 good-slow b h g =
     record {

@@ -8,6 +8,8 @@ pub mod ChannelRank
 pub mod BankStores
 pub mod GoodBanks
 pub mod FreshBanks
+pub mod DeadBranches
+pub mod SameAnswers
 pub mod Reach
 pub mod WindowStores
 pub mod GateStores
@@ -21,3 +23,8 @@ pub mod Calls
 pub mod Made
 pub mod Demand3
 pub mod Sets
+pub mod Segments
+pub mod BinOrder
+pub mod LouderRings
+pub mod Louder
+pub mod LouderCases
