@@ -3,12 +3,14 @@ ghost use mathlib.Core.Path.{_≡_};
 ghost use Rattle.watch_hops.specs.Followed.{isTaken, stopped, afterHop, followed};
 use laws::least;
 use laws::wide;
+use origins::Explanation;
 use watch_hear::Heard;
 use watch_hear::hear;
 use watch_notices::faults;
 use watch_read::read_hop;
 use watch_recording::MOST;
 use watch_recording::Place;
+use watch_report::explanations::explanation_before;
 use watch_report::lines;
 use watch_report::tail;
 use watch_words::Settings;
@@ -76,6 +78,7 @@ fn watch_all(
     let mut turns = u64::MAX;
     while turns > 0 && place.is_on {
         let step = read_hop(fd, n, db, power);
+        let before = explanation_before(s, bank, bank_f);
         let heard = hear(step, bank, bank_f, gate, gate_f, db, power, rise, drop);
         place = follow(
             fd,
@@ -84,6 +87,7 @@ fn watch_all(
             n,
             place,
             heard,
+            before,
             bank,
             bank_f,
             gate,
@@ -109,6 +113,7 @@ fn follow(
     n: u16,
     place: Place,
     heard: Heard,
+    before: Explanation,
     bank: &[u16],
     bank_f: &[f64],
     gate: &[u16],
@@ -130,6 +135,7 @@ fn follow(
         s,
         n,
         place,
+        before,
         bank,
         bank_f,
         gate,
@@ -174,6 +180,7 @@ fn take_hop(
     s: Settings,
     n: u16,
     place: Place,
+    before: Explanation,
     bank: &[u16],
     bank_f: &[f64],
     gate: &[u16],
@@ -193,6 +200,7 @@ fn take_hop(
     lines::print_hop(
         place.hop,
         s,
+        before,
         db,
         bank,
         bank_f,
