@@ -1,24 +1,21 @@
 -- What an explanation can be relied on for, proved. Assumes nothing.
 use mathlib.Core.Path.{_≡_, refl, sym, ap, _∙_}
-use mathlib.Core.Bool.{Bool, true, false, cond, not, _&&_, _||_, Bool·beq}
-use mathlib.Core.List.{List}
+use mathlib.Core.Bool.{Bool, true, false, cond, not, _&&_}
 use Prim.Native.Nat.{ℕ, zero, suc, _+_, _*_, _<_}
 use native.Mathlib.Omega.{arith}
 use lib.Dec.{ltb, eqb}
 use lib.Ieee.{Float, nan, inf, fin, binary64, add, lt, eq, isNan, below, level, up, down}
 use borrow.Author.Tests.{ltb-true, eqb-true, le-ltb}
-use Rattle.laws.proofs.Tests.{clash, by-test, and-l, and-r}
+use Rattle.laws.proofs.Tests.{clash, and-l, and-r}
 use Rattle.model.specs.Numbers.{f3, fmin, fmax}
-use Rattle.model.specs.Bank.{FloorBank, seedOf, notBelow, effectiveFloor, riseFloor}
+use Rattle.model.specs.Bank.{seedOf, notBelow, effectiveFloor, riseFloor}
 use Rattle.model.specs.Stores.{bankOf}
 use Rattle.model.specs.Refusals.{readRefusal}
 use Rattle.model.specs.Readings.{reading, effectiveAt, effectiveReading}
 use Rattle.model.specs.declared.Reading.the-variants as Read
-use Rattle.origins.specs.Origins.{effectiveNumber, effectiveDb, riseNumber, riseDb, laterOfMin, laterOfMax, seedNamed, effectiveOrigin, riseOrigin, ofChannel, explanationAt, explainedOf, explained}
-use Rattle.origins.specs.Explains.{effectiveRule, riseRule, EffectiveNamed, RiseNamed, Named, effectiveOf, riseOf, EffectiveExplained, RiseExplained}
-use Rattle.origins.specs.declared.EffectiveOrigin.{EffectiveOrigin}
+use Rattle.origins.specs.Origins.{effectiveDb, riseDb, laterOfMin, laterOfMax, seedNamed, effectiveOrigin, riseOrigin, ofChannel, explanationAt, explainedOf, explained}
+use Rattle.origins.specs.Explains.{EffectiveNamed, RiseNamed, Named, effectiveOf, riseOf, EffectiveExplained, RiseExplained}
 use Rattle.origins.specs.declared.EffectiveOrigin.the-variants as E
-use Rattle.origins.specs.declared.RiseOrigin.{RiseOrigin}
 use Rattle.origins.specs.declared.RiseOrigin.the-variants as R
 use Rattle.origins.specs.declared.Explanation.{Explanation}
 

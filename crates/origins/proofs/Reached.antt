@@ -3,28 +3,27 @@
 use mathlib.Core.Path.{_≡_, refl, sym, ap, subst, _∙_}
 use mathlib.Core.Bool.{not}
 use mathlib.Core.List.{List, [], _∷_}
-use Prim.Native.Nat.{ℕ, zero, suc, _+_, _/_, _≤_, _<_}
+use Prim.Native.Nat.{ℕ, zero, suc, _/_, _<_}
 use native.Mathlib.Omega.{arith}
 use lib.Dec.{ltb}
 use lib.ListN.{getD, getD-replicate}
-use lib.Ieee.{Float, binary64, add, lt, isNan, neg, ofBits}
+use lib.Ieee.{Float, add, lt, isNan, neg, ofBits}
 use borrow.Author.Tests.{ltb-true, not-false}
 use Rattle.laws.proofs.Tests.{passed, neither}
 use Rattle.laws.proofs.Tabs.{getD-tab}
 use Rattle.model.specs.Numbers.{f0, histMin}
-use Rattle.model.specs.Ring.{since}
-use Rattle.model.specs.Bank.{FloorBank, Hop, blocks, channel, freshChannel, freshBank, seedsAfter, sumsAfter, chansAfter, usableFloors, blockFloors, effectiveFloor, riseFloor, riseFloors, fastStep, slowStep, stepAt, bankStep}
-use Rattle.model.specs.Stores.{bankU, bankF, bankOf}
+use Rattle.model.specs.Bank.{FloorBank, Hop, blocks, channel, freshChannel, freshBank, effectiveFloor, riseFloor, riseFloors, fastStep, slowStep, stepAt, bankStep}
+use Rattle.model.specs.Stores.{bankU, bankOf}
 use Rattle.model.specs.Refusals.{bankRefusal, readRefusal, updateRefusal}
 use Rattle.model.specs.Calls.{leaves, bankUpdate}
 use Rattle.model.specs.Readings.{reading, riseAt, riseReading}
-use Rattle.model.specs.GoodBank.{Good, Ready}
+use Rattle.model.specs.GoodBank.{Good}
 use Rattle.model.specs.Reach.{Stores, BankCall, update, storesIn, left, leftBy, storesOf, SoundStores}
 use Rattle.model.proofs.GoodBanks.{bank-back, good-ready}
 use Rattle.model.proofs.FreshBanks.{good-fresh, good-step}
 use Rattle.model.proofs.Reach.{call-keeps}
 use Rattle.origins.specs.Origins.{ofChannel, explained}
-use Rattle.origins.specs.Explains.{riseOf, RiseReached}
+use Rattle.origins.specs.Explains.{RiseReached}
 use Rattle.origins.proofs.Explains.{rise-explained}
 
 -- each stored rise floor is the one of document 01's formula

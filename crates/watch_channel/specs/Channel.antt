@@ -1,5 +1,5 @@
 -- A channel's number as a word: digits alone, 511 at most. It stands with 1 added, and 0 for a word that is none.
-use mathlib.Core.Bool.{Bool, cond, _&&_}
+use mathlib.Core.Bool.{cond, _&&_}
 use mathlib.Core.List.{List, foldl}
 use Prim.Native.Nat.{ℕ, _+_, _*_, _-_}
 use lib.Dec.{eqb, leb}
