@@ -10,6 +10,8 @@ import csv
 import sys
 
 LEFT, TOP, WIDTH, STRIP, GAP = 74, 122, 980, 84, 14
+# where the histogram begins
+BOTTOM_DB = -160.0
 # one colour for one meaning
 POWER, ALIVE, UP, DOWN, TEXT = "#b4bbc3", "#dcefdc", "#1c7c34", "#b3261e", "#222"
 # a floor: its column, that of its origin, width, dashes, and the colour of each rule
@@ -120,8 +122,8 @@ def main():
         sys.exit("plot.py: no rows; pipe `watch --csv FILE` into it")
     rows = [row for each in channels.values() for row in each]
     seconds = max(number(row, "seconds") for row in rows) or 1.0
-    levels = sorted(x for x in (number(row, "db") for row in rows) if x > -140.0)
-    low = 10.0 * ((levels[len(levels) // 50] if levels else -140.0) // 10.0)
+    levels = sorted(x for x in (number(row, "db") for row in rows) if x > BOTTOM_DB)
+    low = 10.0 * ((levels[len(levels) // 50] if levels else BOTTOM_DB) // 10.0)
     high = 10.0 * ((levels[-1] if levels else 0.0) // 10.0 + 1.0)
     bottom = TOP + len(channels) * (STRIP + GAP)
     out = [

@@ -2,6 +2,7 @@
 // minimum or maximum are equal, or NaN.
 use crate::calls::{Call, BEFORE};
 use crate::faults::any_bank;
+use crate::layout::{place, BLOCK_CHANNELS, CHANNEL_LEN, FILLED, LEAD, RING_LEN};
 use crate::numbers::{any_f64, same, Rng};
 use crate::tally::Tally;
 use crate::wolfcloak as lib;
@@ -36,9 +37,9 @@ fn named(earlier: Origin, later: Origin, beats: fn(&f64, &f64) -> bool, seen: &m
 /// The effective floor's origin and the rise floor's, of channel k of sound stores.
 fn explanation(u: &[u16], f: &[f64], k: usize, seen: &mut Seen) -> [Origin; 2] {
     let n = u[0] as usize;
-    let (blocks, block) = (n.div_ceil(32), k / 32);
-    let channel = &u[3 + blocks + 533 * k..][..533];
-    let since = channel[531] - channel[532];
+    let (blocks, block) = (n.div_ceil(BLOCK_CHANNELS), k / BLOCK_CHANNELS);
+    let channel = &u[place(n, k)..][..CHANNEL_LEN];
+    let since = (channel[FILLED] - channel[LEAD]) as usize;
     let pushes = u[3 + block];
     let (usable, block_floor) = (f[n + k], f[4 * n + block]);
     let seed = (2, f[4 * n + blocks + block] / pushes as f64 - 3.8);
@@ -47,7 +48,7 @@ fn explanation(u: &[u16], f: &[f64], k: usize, seen: &mut Seen) -> [Origin; 2] {
         effective = named(effective, seed, f64::gt, seen);
     }
     let mut rise = named((0, effective.1), (1, block_floor), f64::gt, seen);
-    if since < 250 && pushes > 0 {
+    if since < RING_LEN && pushes > 0 {
         rise = named(rise, seed, f64::gt, seen);
     }
     seen[effective.0 as usize] += 1;
@@ -75,7 +76,7 @@ pub fn as_stored(t: &mut Tally, what: Arguments, u: &[u16], f: &[f64], k: usize)
 /// Sound stores whose usable floors, block floors and seeds are often equal to each other or to the allowance above, zeros, NaN or infinite.
 pub fn any_sides(t: &mut Tally, n: usize, rng: &mut Rng) {
     let (u, mut f) = any_bank(n, rng);
-    let blocks = n.div_ceil(32);
+    let blocks = n.div_ceil(BLOCK_CHANNELS);
     for block in 0..blocks {
         let pushes = u[3 + block] as f64;
         let odd = [any_f64(rng), any_f64(rng)];
@@ -84,7 +85,7 @@ pub fn any_sides(t: &mut Tally, n: usize, rng: &mut Rng) {
         let floor = rng.pick(&[seed, seed - 3.0, -3.0, -0.0, 0.0, -90.0, odd[1], f64::NAN, f64::NEG_INFINITY]);
         f[4 * n + block] = floor;
         f[4 * n + blocks + block] = sum;
-        for k in 32 * block..n.min(32 * block + 32) {
+        for k in BLOCK_CHANNELS * block..n.min(BLOCK_CHANNELS * (block + 1)) {
             let odd = any_f64(rng);
             f[n + k] = rng.pick(&[floor + 3.0, floor, seed, -0.0, 0.0, odd, f64::NAN, (floor + 3.0).next_up()]);
         }

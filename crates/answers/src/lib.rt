@@ -3,6 +3,7 @@ pub mod explained;
 
 ghost use mathlib.Core.Path.{_≡_};
 ghost use Rattle.answers.specs.Answers.{answered, floorsAnswered, ringAnswered};
+use model::layout::RING_LEN;
 
 // A reading's number, its value written only if it has one.
 pub fn value_answer(reading: model::Reading, value: &mut f64) -> u16
@@ -56,6 +57,6 @@ pub fn ring_answer(
         return no;
     }
     *start = channel_readings::ring_start(bank, k);
-    *len = 250;
+    *len = RING_LEN;
     0
 }

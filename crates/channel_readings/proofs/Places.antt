@@ -13,6 +13,7 @@ use Rattle.laws.proofs.Defaults.{getD-any}
 use Rattle.laws.proofs.Lists.{getD-part}
 use Rattle.laws.proofs.Tests.{neither, passed}
 use Rattle.model.specs.Numbers.{f0, fmin}
+use Rattle.model.specs.Layout.{bins, ringLen, blockChannels}
 use Rattle.model.specs.Ring.{since}
 use Rattle.model.specs.Bank.{blocks}
 use Rattle.model.specs.Stores.{bankOf, chanOf, chanPart}
@@ -33,7 +34,7 @@ from-ready u f k r h =
       high = r .good .high;
       long = r .long;
       long-f = r .long-f;
-      sound = subst (Sound 250 280) (channel-at u f k h) (r .good .sound k h);
+      sound = subst (Sound ringLen bins) (channel-at u f k h) (r .good .sound k h);
     }
 
 -- a reading that is not refused
@@ -53,10 +54,10 @@ abbrev pub gathered : List ℕ → List Float → ℕ → ℕ → ℕ → Source
 gathered u f k n e =
     record {
       usable = getD f (n + k) nan;
-      «block_floor» = getD f (4 * n + k / 32) nan;
+      «block_floor» = getD f (4 * n + k / blockChannels) nan;
       since = e;
-      pushes = getD u (3 + k / 32) 0;
-      sum = getD f (4 * n + blocks n + k / 32) nan;
+      pushes = getD u (3 + k / blockChannels) 0;
+      sum = getD f (4 * n + blocks n + k / blockChannels) nan;
     }
 
 module _ (u : List ℕ) (f : List Float) (k : ℕ) (r : Readable u f k) where
@@ -75,9 +76,9 @@ module _ (u : List ℕ) (f : List Float) (k : ℕ) (r : Readable u f k) where
   unfolding sourcesAt bankOf
   sources-are =
       let usable = float-at N N k f (omega arith) (r .below) in
-      let floor = float-at (4 * N) (blocks N) (k / 32) f (omega arith) (omega arith) in
-      let pushes = sym (getD-part 3 (blocks N) u (k / 32) 0 (omega arith)) in
-      let sum = float-at (4 * N + blocks N) (blocks N) (k / 32) f (omega arith) (omega arith) in
+      let floor = float-at (4 * N) (blocks N) (k / blockChannels) f (omega arith) (omega arith) in
+      let pushes = sym (getD-part 3 (blocks N) u (k / blockChannels) 0 (omega arith)) in
+      let sum = float-at (4 * N + blocks N) (blocks N) (k / blockChannels) f (omega arith) (omega arith) in
       λ j.
       record {
         usable = usable j;
@@ -90,7 +91,7 @@ module _ (u : List ℕ) (f : List Float) (k : ℕ) (r : Readable u f k) where
   pub sources-read : (n e : ℕ) → n ≡ N → e ≡ since (chanOf (chanPart n u k)) → gathered u f k n e ≡ sourcesAt (bankOf u f) k
   sources-read n e d h = ap₂ (gathered u f k) d (h ∙ ap (λ (n : ℕ). since (chanOf (chanPart n u k))) d) ∙ sources-are
 
-pub block-below : (n k : ℕ) → k < n → k / 32 < blocks n
+pub block-below : (n k : ℕ) → k < n → k / blockChannels < blocks n
 block-below n k h = omega arith
 
 -- a smoothed power, of n channels

@@ -1,7 +1,7 @@
 // Document 02, R-4: which rule yields a floor, from the five numbers that a channel's floors come from.
 use block::BLOCK_ALLOWANCE_DB;
-use block::RING_LEN;
 use block::SEED_PUSHES;
+use model::layout::RING_LEN_U16;
 
 ghost use mathlib.Core.Path.{_≡_};
 ghost use mathlib.Core.Bool.{not, _&&_};
@@ -82,7 +82,7 @@ pub fn rise_origin(
 {
     let effective = block::effective_floor(usable, block_floor, since, pushes, sum);
     let risen = block::greatest(effective, block_floor);
-    if seed_named(risen, since < RING_LEN, pushes, sum) {
+    if seed_named(risen, since < RING_LEN_U16, pushes, sum) {
         return origins::RiseOrigin::Seed(block::seed(pushes, sum));
     }
     if later_of_max(effective, block_floor) {

@@ -7,6 +7,7 @@ use lib.Dec.{ltb, eqb}
 use lib.Ieee.{Float, nan, inf, fin, binary64, add, lt, eq, isNan, below, level, up, down}
 use borrow.Author.Tests.{ltb-true, eqb-true, le-ltb}
 use Rattle.laws.proofs.Tests.{clash, and-l, and-r}
+use Rattle.model.specs.Layout.{ringLen}
 use Rattle.model.specs.Numbers.{f3, fmin, fmax}
 use Rattle.model.specs.Bank.{seedOf, notBelow, effectiveFloor, riseFloor}
 use Rattle.model.specs.Stores.{bankOf}
@@ -164,24 +165,24 @@ module _ (u f : Float) (e pushes : ℕ) (sum : Float) where
   abbrev W : Float
   W = effectiveFloor u f e pushes sum
 
-  abbrev A250 : Bool
-  A250 = ltb e 250 && ltb 0 pushes
+  abbrev Aring : Bool
+  Aring = ltb e ringLen && ltb 0 pushes
 
-  rise-cases : (m s : Bool) → laterOfMax W f ≡ m → seedNamed A250 (fmax W f) S ≡ s
+  rise-cases : (m s : Bool) → laterOfMax W f ≡ m → seedNamed Aring (fmax W f) S ≡ s
       → RiseNamed u f e pushes sum (cond s (R.Seed S) (cond m (R.Block f) (R.EffectiveFloor W)))
   unfolding riseFloor
   rise-cases m true hm hs =
       record {
-        carried = seed-is true A250 (fmax W f) S hs;
+        carried = seed-is true Aring (fmax W f) S hs;
         yields = refl;
         effective-first = λ _ h. absurd (omega arith);
-        seed-last = λ h _. seed-above e 250 pushes (fmax W f) S hs h;
-        nan-effective = λ h. never (isNan S) h (seed-number e 250 pushes (fmax W f) S hs);
-        asked = λ _. was-asked e 250 pushes (fmax W f) S hs;
+        seed-last = λ h _. seed-above e ringLen pushes (fmax W f) S hs h;
+        nan-effective = λ h. never (isNan S) h (seed-number e ringLen pushes (fmax W f) S hs);
+        asked = λ _. was-asked e ringLen pushes (fmax W f) S hs;
       }
   rise-cases true false hm hs =
       record {
-        carried = max-is true W f hm ∙ seed-is false A250 (fmax W f) S hs;
+        carried = max-is true W f hm ∙ seed-is false Aring (fmax W f) S hs;
         yields = refl;
         effective-first = λ h _. never (laterOfMax W f) hm (equal-apart W f h .1);
         seed-last = λ _ h. absurd (omega arith);
@@ -190,7 +191,7 @@ module _ (u f : Float) (e pushes : ℕ) (sum : Float) where
       }
   rise-cases false false hm hs =
       record {
-        carried = max-is false W f hm ∙ seed-is false A250 (fmax W f) S hs;
+        carried = max-is false W f hm ∙ seed-is false Aring (fmax W f) S hs;
         yields = refl;
         effective-first = λ _ h. absurd (omega arith);
         seed-last = λ _ h. absurd (omega arith);
@@ -200,7 +201,7 @@ module _ (u f : Float) (e pushes : ℕ) (sum : Float) where
 
   pub rise-named : RiseNamed u f e pushes sum (riseOrigin u f e pushes sum)
   unfolding riseOrigin
-  rise-named = rise-cases (laterOfMax W f) (seedNamed A250 (fmax W f) S) refl refl
+  rise-named = rise-cases (laterOfMax W f) (seedNamed Aring (fmax W f) S) refl refl
 
 pub named : Named
 named u f e pushes sum = (effective-named u f e pushes sum, rise-named u f e pushes sum)

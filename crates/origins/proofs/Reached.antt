@@ -11,7 +11,8 @@ use lib.Ieee.{Float, add, lt, isNan, neg, ofBits}
 use borrow.Author.Tests.{ltb-true, not-false}
 use Rattle.laws.proofs.Tests.{passed, neither}
 use Rattle.laws.proofs.Tabs.{getD-tab}
-use Rattle.model.specs.Numbers.{f0, histMin}
+use Rattle.model.specs.Layout.{blockChannels, histMin}
+use Rattle.model.specs.Numbers.{f0}
 use Rattle.model.specs.Bank.{FloorBank, Hop, blocks, channel, freshChannel, freshBank, effectiveFloor, riseFloor, riseFloors, fastStep, slowStep, stepAt, bankStep}
 use Rattle.model.specs.Stores.{bankU, bankOf}
 use Rattle.model.specs.Refusals.{bankRefusal, readRefusal, updateRefusal}
@@ -39,8 +40,8 @@ fresh-floor = refl
 kept-fresh : (n : ℕ) → Kept (freshBank n)
 unfolding freshBank ofChannel freshChannel
 kept-fresh n k h =
-    let i : k / 32 < blocks n = omega arith in
-    simp (getD-replicate {A = Float} n k histMin f0 h, getD-replicate n k freshChannel freshChannel h, getD-replicate {A = Float} (blocks n) (k / 32) histMin f0 i, getD-replicate {A = ℕ} (blocks n) (k / 32) 0 0 i, getD-replicate {A = Float} (blocks n) (k / 32) f0 f0 i)
+    let i : k / blockChannels < blocks n = omega arith in
+    simp (getD-replicate {A = Float} n k histMin f0 h, getD-replicate n k freshChannel freshChannel h, getD-replicate {A = Float} (blocks n) (k / blockChannels) histMin f0 i, getD-replicate {A = ℕ} (blocks n) (k / blockChannels) 0 0 i, getD-replicate {A = Float} (blocks n) (k / blockChannels) f0 f0 i)
     fresh-floor
 
 kept-slow : (b : FloorBank) (h : Hop) → Kept (slowStep b h)

@@ -4,6 +4,7 @@ use mathlib.Core.Bool.{true}
 use mathlib.Core.List.{List}
 use Prim.Native.Nat.{ℕ, _≤_, _<_}
 use lib.Ieee.{Float, binary64, add, eq, isNan}
+use Rattle.model.specs.Layout.{ringLen}
 use Rattle.model.specs.Numbers.{f3, fmin, fmax}
 use Rattle.model.specs.Bank.{freshBank, seedOf, effectiveFloor, riseFloor}
 use Rattle.model.specs.Stores.{bankOf}
@@ -53,7 +54,7 @@ pub record RiseNamed (u f : Float) (e pushes : ℕ) (sum : Float) (o : RiseOrigi
   pub effective-first : eq (effectiveFloor u f e pushes sum) f ≡ true → riseNumber o ≡ 1 → ⊥
   pub seed-last : eq (fmax (effectiveFloor u f e pushes sum) f) (seedOf pushes sum) ≡ true → riseNumber o ≡ 2 → ⊥
   pub nan-effective : isNan (riseDb o) ≡ true → riseNumber o ≡ 0
-  pub asked : riseNumber o ≡ 2 → (e < 250) × (0 < pushes)
+  pub asked : riseNumber o ≡ 2 → (e < ringLen) × (0 < pushes)
 
 abbrev pub Named : Type 0
 Named =

@@ -5,6 +5,7 @@ use Prim.Native.Nat.{ℕ, zero, suc, _/_}
 use lib.Dec.{ltb}
 use lib.ListN.{getD}
 use lib.Ieee.{Float, binary64, add, lt, isNan}
+use Rattle.model.specs.Layout.{ringLen, blockChannels}
 use Rattle.model.specs.Numbers.{f0, f3, fmin, fmax}
 use Rattle.model.specs.Ring.{since}
 use Rattle.model.specs.Bank.{FloorBank, channel, seedOf, effectiveFloor}
@@ -73,7 +74,7 @@ unfoldable pub riseOrigin : Float → Float → ℕ → ℕ → Float → RiseOr
 riseOrigin u f e pushes sum =
     let effective = effectiveFloor u f e pushes sum in
     let seed = seedOf pushes sum in
-    cond (seedNamed (ltb e 250 && ltb 0 pushes) (fmax effective f) seed) (R.Seed seed)
+    cond (seedNamed (ltb e ringLen && ltb 0 pushes) (fmax effective f) seed) (R.Seed seed)
     (cond (laterOfMax effective f) (R.Block f)
     (R.EffectiveFloor effective))
 
@@ -82,8 +83,8 @@ riseOrigin u f e pushes sum =
 -- what document 01's formulas for a channel's floors are asked with
 unfoldable pub ofChannel {ℓ} : {A : Type ℓ} → (Float → Float → ℕ → ℕ → Float → A) → FloorBank → ℕ → A
 ofChannel rule b k =
-    rule (getD (b .usable) k f0) (getD (b .blockFloor) (k / 32) f0) (since (channel b k)) (getD (b .seeds) (k / 32) 0)
-    (getD (b .seedSum) (k / 32) f0)
+    rule (getD (b .usable) k f0) (getD (b .blockFloor) (k / blockChannels) f0) (since (channel b k)) (getD (b .seeds) (k / blockChannels) 0)
+    (getD (b .seedSum) (k / blockChannels) f0)
 
 unfoldable pub explanationAt : FloorBank → ℕ → Explanation
 explanationAt b k = record { effective = ofChannel effectiveOrigin b k; rise = ofChannel riseOrigin b k }
