@@ -10,6 +10,8 @@ pub struct Tally {
     pub drops: u64,
     /// pairs of histories whose floors, and whose rises, differed for a while
     pub parted: [u64; 2],
+    /// marks that untrue pairs gave, and the ladder would not
+    pub untrue: u64,
     /// what explanations named, and of what sides
     pub seen: Seen,
     pub compared: u64,
@@ -59,6 +61,7 @@ impl Tally {
         self.rises += other.rises;
         self.drops += other.drops;
         (0..2).for_each(|i| self.parted[i] += other.parted[i]);
+        self.untrue += other.untrue;
         self.seen.iter_mut().zip(other.seen).for_each(|(all, more)| *all += more);
         self.compared += other.compared;
         self.differences += other.differences;
