@@ -14,8 +14,8 @@ use Rattle.model.specs.Stores.{bankOf}
 use Rattle.model.specs.Refusals.{readRefusal}
 use Rattle.model.specs.Readings.{reading, effectiveAt, effectiveReading}
 use Rattle.model.specs.declared.Reading.the-variants as Read
-use Rattle.origins.specs.Origins.{effectiveDb, riseDb, laterOfMin, laterOfMax, seedNamed, effectiveOrigin, riseOrigin, ofChannel, explanationAt, explainedOf, explained}
-use Rattle.origins.specs.Explains.{EffectiveNamed, RiseNamed, Named, effectiveOf, riseOf, EffectiveExplained, RiseExplained}
+use Rattle.origins.specs.Origins.{effectiveDb, riseDb, laterOfMin, laterOfMax, seedNamed, effectiveOrigin, riseOrigin, ofChannel, explanationAt, explainedOf, explainedNumber, explained}
+use Rattle.origins.specs.Explains.{EffectiveNamed, RiseNamed, Named, RefusedAsRead, effectiveOf, riseOf, EffectiveExplained, RiseExplained}
 use Rattle.origins.specs.declared.EffectiveOrigin.the-variants as E
 use Rattle.origins.specs.declared.RiseOrigin.the-variants as R
 use Rattle.origins.specs.declared.Explanation.{Explanation}
@@ -207,6 +207,14 @@ pub named : Named
 named u f e pushes sum = (effective-named u f e pushes sum, rise-named u f e pushes sum)
 
 -- ---- of lent stores
+
+numbered : (r : ℕ) (x : Explanation) → explainedNumber (explainedOf r x) ≡ r
+numbered zero x = refl
+numbered (suc r) x = refl
+
+pub refused-as-read : RefusedAsRead
+unfolding explained
+refused-as-read u f k = numbered (readRefusal u f k) (explanationAt (bankOf u f) k)
 
 effective-reads : (r : ℕ) (x : Explanation) (v : Float) → effectiveDb (x .effective) ≡ v → effectiveOf (explainedOf r x) ≡ reading r v
 effective-reads zero x v h = ap Read.Value h

@@ -13,7 +13,7 @@ use Rattle.model.specs.Readings.{reading, effectiveReading, riseReading}
 use Rattle.model.specs.Reach.{Stores, BankCall, leftBy, storesOf}
 use Rattle.model.specs.declared.Reading.{Reading}
 use Rattle.model.specs.declared.Reading.the-variants as Read
-use Rattle.origins.specs.Origins.{effectiveNumber, effectiveDb, riseNumber, riseDb, effectiveOrigin, riseOrigin, ofChannel, explained}
+use Rattle.origins.specs.Origins.{effectiveNumber, effectiveDb, riseNumber, riseDb, effectiveOrigin, riseOrigin, ofChannel, explainedNumber, explained}
 use Rattle.origins.specs.declared.EffectiveOrigin.{EffectiveOrigin}
 use Rattle.origins.specs.declared.EffectiveOrigin.the-variants as E
 use Rattle.origins.specs.declared.RiseOrigin.{RiseOrigin}
@@ -62,6 +62,10 @@ Named =
     → EffectiveNamed u f e pushes sum (effectiveOrigin u f e pushes sum) × RiseNamed u f e pushes sum (riseOrigin u f e pushes sum)
 
 -- ---- of lent stores
+
+-- refusals are those of a reading
+abbrev pub RefusedAsRead : Type 0
+RefusedAsRead = (u : List ℕ) (f : List Float) (k : ℕ) → explainedNumber (explained u f k) ≡ readRefusal u f k
 
 -- the two floors explained, as readings
 abbrev pub effectiveOf : Explained → Reading
