@@ -5,7 +5,7 @@ use Rattle.watch_hear.proofs.answer.Statement.{statement}
 use Rattle.watch_hear.proofs.answer.Tie as tie
 
 returns : tie.Need-returns
-returns c = refusal _ (c .if1 .taken)
+returns c = refusal _ _ (c .if1 .taken)
 
 returns-2 : tie.Need-returns-2
 returns-2 c = search needs
