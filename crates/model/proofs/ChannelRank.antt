@@ -3,10 +3,10 @@ use mathlib.Core.Path.{_≡_, refl, sym, ap, _∙_}
 use mathlib.Core.List.{List}
 use Prim.Native.Nat.{ℕ, zero, suc, _+_, _-_, _/_, _<_, _≤_}
 use native.Mathlib.Omega.{arith}
-use lib.Dec.{eqb}
+use lib.Dec.{eqb, ltb}
 use lib.ListN.{length, getD}
 use lib.Seq.{length-take-le, getD-take}
-use borrow.Author.Tests.{eq-eqb, ne-eqb}
+use borrow.Author.Tests.{ltb-true, ltb-false, eq-eqb, ne-eqb}
 use Rattle.laws.specs.Lists.{occ}
 use Rattle.laws.proofs.Lists.{getD-part}
 use Rattle.laws.proofs.Tests.{by-test}
@@ -41,6 +41,14 @@ pub record Scan (l : List ℕ) (rank passed b : ℕ) : Type 0 where
 
 pub scan-begins : (l : List ℕ) (rank : ℕ) → 0 < rank → Scan l rank 0 0
 scan-begins l rank h = record { most = omega arith; sum = sym (under-zero l); short = h }
+
+-- the scan ends inside: after the last bin all entries are passed, and those are as many as the highest rank
+pub scan-inside : {R : ℕ} {c : ChannelFloor} {rank passed b : ℕ} → Sound R 280 c → Scan (entries c) rank passed b → rank ≤ c .filled → b < 280
+scan-inside {c = c} {b = b} k s h =
+    by-test (ltb b 280) (λ t. ltb-true b 280 t)
+    (λ t.
+    let e : b ≡ 280 = omega (arith, s .most, ltb-false b 280 t) in
+    absurd (omega (arith, s .sum, s .short, ap (λ (x : ℕ). under x (entries c)) e, under-top c k)))
 
 pub scan-turns : {l : List ℕ} {rank passed b : ℕ} (x : ℕ) → Scan l rank passed b → x ≡ occ b l → b < 280 → passed + x < rank → Scan l rank (passed + x) (b + 1)
 scan-turns {l} {b = b} x s e h k = record { most = omega arith; sum = omega (arith, s .sum, under-more b l); short = k }

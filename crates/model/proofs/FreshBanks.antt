@@ -58,7 +58,7 @@ seeds-slow b db g i l =
     rw (getD-tab (blocks (b .n)) (λ i. getD (b .seeds) i 0 + one (takesSeed (getD (b .seeds) i 0) (median (block i db)))) i 0 l)
     (seed-small (getD (b .seeds) i 0) (median (block i db)) (g .seeds-small i l))
 
-good-slow : (b : FloorBank) (h : Hop) → Good b → Good (slowStep b h)
+pub good-slow : (b : FloorBank) (h : Hop) → Good b → Good (slowStep b h)
 unfolding slowStep seedsAfter sumsAfter chansAfter rawFloors usableFloors blockFloors riseFloors
 good-slow b h g =
     record {

@@ -8,6 +8,8 @@ pub mod ChannelRank
 pub mod BankStores
 pub mod GoodBanks
 pub mod FreshBanks
+pub mod DeadBranches
+pub mod SameAnswers
 pub mod Reach
 pub mod WindowStores
 pub mod GateStores

@@ -4,18 +4,9 @@ use mathlib.Core.List.{List}
 use Prim.Native.Nat.{ℕ, zero, suc, _+_, _/_, _≤_, _<_}
 use native.Mathlib.Numerals.{add-one}
 use native.Mathlib.Omega.{arith}
-use lib.Dec.{ltb}
-use borrow.Author.Tests.{ltb-true, ltb-false}
 use Rattle.laws.specs.Lists.{occ}
-use Rattle.laws.proofs.Tests.{by-test}
 use Rattle.model.specs.Ring.{smallest, centreOf, quartileOf}
-use Rattle.model.proofs.Rank.{under, under-zero, under-more, smallest-is}
-
--- the bin at which rank k is reached
-reached : (k : ℕ) (l : List ℕ) → 0 < k → (B : ℕ) → k ≤ under B l → (b : ℕ) × (under b l < k) × (k ≤ under (b + 1) l)
-reached k l p zero h = absurd (omega (arith, under-zero l))
-reached k l p (suc B) h =
-    by-test (ltb (under B l) k) (λ t. (B, ltb-true (under B l) k t, rw (add-one B) h)) (λ t. reached k l p B (ltb-false (under B l) k t))
+use Rattle.model.proofs.Rank.{under, under-zero, under-more, reached, smallest-is}
 
 module _ (l m : List ℕ) (same : (x : ℕ) → occ x l ≡ occ x m) where
   under-same : (b : ℕ) → under b l ≡ under b m
@@ -25,8 +16,8 @@ module _ (l m : List ℕ) (same : (x : ℕ) → occ x l ≡ occ x m) where
   smallest-same : (k B : ℕ) → 0 < k → k ≤ under B l → smallest k l ≡ smallest k m
   smallest-same k B p h =
       let r = reached k l p B h in
-      smallest-is (r .0) k l p (r .1) (r .2)
-      ∙ sym (smallest-is (r .0) k m p (omega (arith, r .1, under-same (r .0))) (omega (arith, r .2, under-same (r .0 + 1))))
+      smallest-is (r .0) k l p (r .2) (r .3)
+      ∙ sym (smallest-is (r .0) k m p (omega (arith, r .2, under-same (r .0))) (omega (arith, r .3, under-same (r .0 + 1))))
 
   pub quartile-same : (r B : ℕ) → r ≤ under B l → quartileOf r l ≡ quartileOf r m
   quartile-same zero B h = refl

@@ -2,6 +2,7 @@
 use mathlib.Core.Path.{_≡_, refl, sym, ap, _∙_}
 use mathlib.Core.List.{List, [], _∷_}
 use Prim.Native.Nat.{ℕ, zero, suc, _+_, _-_, _/_, _<_, _≤_}
+use native.Mathlib.Numerals.{add-one}
 use native.Mathlib.Omega.{arith}
 use lib.Dec.{leb, ltb, eqb}
 use lib.ListN.{length, getD}
@@ -100,11 +101,11 @@ at-most b (x ∷ l) (suc i) d o k =
 
 smallest-least : (b k : ℕ) (l : List ℕ) → 0 < k → k ≤ length l → under b l < k → b ≤ smallest k l
 unfolding smallest
-smallest-least b k l p h u = at-least b (sorted l) (k - 1) 279 (ordered-sorted l) (omega (arith, length-sorted l)) (omega (arith, under-sorted b l))
+smallest-least b k l p h u = at-least b (sorted l) (k - 1) 0 (ordered-sorted l) (omega (arith, length-sorted l)) (omega (arith, under-sorted b l))
 
 smallest-below : (b k : ℕ) (l : List ℕ) → 0 < k → k ≤ under b l → smallest k l < b
 unfolding smallest
-smallest-below b k l p u = at-most b (sorted l) (k - 1) 279 (ordered-sorted l) (omega (arith, under-sorted b l))
+smallest-below b k l p u = at-most b (sorted l) (k - 1) 0 (ordered-sorted l) (omega (arith, under-sorted b l))
 
 under-le : (b : ℕ) (l : List ℕ) → under b l ≤ length l
 under-le b [] = omega arith
@@ -152,6 +153,13 @@ under-more b (x ∷ l) = omega (arith, one-more b x, under-more b l)
 pub under-all : (b : ℕ) (l : List ℕ) → ((i : ℕ) → i < length l → getD l i 0 < b) → under b l ≡ length l
 under-all b [] h = refl
 under-all b (x ∷ l) h = simp (lt-ltb x b (h 0 (omega arith))) (omega (arith, under-all b l (λ i g. h (suc i) (omega arith))))
+
+-- the bin, below B, at which rank k is reached
+pub reached : (k : ℕ) (l : List ℕ) → 0 < k → (B : ℕ) → k ≤ under B l → (b : ℕ) × (b < B) × (under b l < k) × (k ≤ under (b + 1) l)
+reached k l p zero h = absurd (omega (arith, under-zero l))
+reached k l p (suc B) h =
+    by-test (ltb (under B l) k) (λ t. (B, omega arith, ltb-true (under B l) k t, rw (add-one B) h))
+    (λ t. let r = reached k l p B (ltb-false (under B l) k t) in (r .0, omega (arith, r .1), r .2, r .3))
 
 -- ---- with s entries of bin 0 left out
 

@@ -15,7 +15,7 @@ use borrow.Author.Tests.{eqb-true, eqb-false}
 use Rattle.laws.specs.Lists.{one, occ}
 use Rattle.model.specs.Ring.{ChannelFloor, counted, uncounted, oldest, entries, pushAs, push, pushIn}
 use Rattle.model.specs.Sound.{Sound}
-use Rattle.laws.proofs.Counting.{occ-append, occ-le}
+use Rattle.laws.proofs.Counting.{occ-append}
 use Rattle.model.proofs.Queue.{newest, older, newest-all, newest-step, win, win-part, win-full, win-pushed, kept, length-win, occ-win}
 
 -- the window, oldest first
@@ -40,16 +40,16 @@ one-ne x y n = go (eqb x y) (λ (h : T (eqb x y)). n (eqb→eq x y h))
     go true h = absurd (h tt)
     go false h = refl
 
-tally-counted : (K : ℕ) (cs w : List ℕ) (b : ℕ) → length cs ≡ K → b < K → length w < 255 → Tallied K cs w → Tallied K (counted cs b) (w ++ (b ∷ []))
+tally-counted : (K : ℕ) (cs w : List ℕ) (b : ℕ) → length cs ≡ K → b < K → Tallied K cs w → Tallied K (counted cs b) (w ++ (b ∷ []))
 unfolding Tallied
-tally-counted K cs w b l h s c x k = go (ℕ-discrete x b)
+tally-counted K cs w b l h c x k = go (ℕ-discrete x b)
   where
     at-b : getD (counted cs b) b 0 ≡ occ b (w ++ (b ∷ []))
-    at-b = omega (arith, getD-set-same cs b (min (getD cs b 0 + 1) 255) 0 (omega arith), c b h, occ-append b w (b ∷ []), one-refl b, occ-le b w)
+    at-b = omega (arith, getD-set-same cs b (getD cs b 0 + 1) 0 (omega arith), c b h, occ-append b w (b ∷ []), one-refl b)
 
     go : Dec (x ≡ b) → getD (counted cs b) x 0 ≡ occ x (w ++ (b ∷ []))
     go (yes e) = subst (λ (y : ℕ). getD (counted cs b) y 0 ≡ occ y (w ++ (b ∷ []))) (sym e) at-b
-    go (no n) = omega (arith, getD-set-other cs b x (min (getD cs b 0 + 1) 255) 0 n, c x k, occ-append x w (b ∷ []), one-ne x b n)
+    go (no n) = omega (arith, getD-set-other cs b x (getD cs b 0 + 1) 0 n, c x k, occ-append x w (b ∷ []), one-ne x b n)
 
 tally-uncounted : (K : ℕ) (cs w : List ℕ) (b : ℕ) → length cs ≡ K → b < K → Tallied K cs (b ∷ w) → Tallied K (uncounted cs b) w
 unfolding Tallied
@@ -81,7 +81,7 @@ pub record Good (R K : ℕ) (c : ChannelFloor) : Type 0 where
   pub tallied : Tallied K (c .counts) (W c)
   pub lead-within : c .lead ≤ occ 0 (W c)
 
-module _ (R K : ℕ) (small : R < 255) where
+module _ (R K : ℕ) where
   next-within : (c : ChannelFloor) → c .next < R → c .filled ≤ R → (c .filled < R → c .next ≡ c .filled) → c .next ≤ c .filled
   next-within c n f s = go (ℕ-discrete (c .filled) R)
     where
@@ -123,7 +123,7 @@ module _ (R K : ℕ) (small : R < 255) where
   after-part c b g h p =
       record {
         ring-length = length-set (c .ring) (c .next) b ∙ g .ring-length;
-        counts-length = length-set (c .counts) b (min (getD (c .counts) b 0 + 1) 255) ∙ g .counts-length;
+        counts-length = length-set (c .counts) b (getD (c .counts) b 0 + 1) ∙ g .counts-length;
         next-below = mod-lt (c .next + 1) (omega arith);
         filled-within = omega arith;
         at-start = λ q. (let e : (c .next + 1) % R ≡ c .next + 1 = mod-eq-of-lt (omega (arith, g .at-start p)) in omega (arith, e, g .at-start p));
@@ -133,7 +133,7 @@ module _ (R K : ℕ) (small : R < 255) where
             subst (λ (f : ℕ). win ((c .next + 1) % R) (f + 1) (set (c .ring) (c .next) b) ≡ win (c .next) f (c .ring) ++ (b ∷ [])) (g .at-start p)
             (subst (λ (k : ℕ). win ((c .next + 1) % R) k (set (c .ring) (c .next) b) ≡ win (c .next) (c .next) (c .ring) ++ (b ∷ [])) (sym (add-one (c .next)))
             (win-part R (c .next) (c .ring) (g .ring-length) (g .next-below) b));
-        tallied = tally-counted K (c .counts) (W c) b (g .counts-length) h (omega (arith, length-W c g)) (g .tallied);
+        tallied = tally-counted K (c .counts) (W c) b (g .counts-length) h (g .tallied);
         lead-within = g .lead-within;
         keeps = newest-all R (W c ++ (b ∷ [])) (omega (arith, length-append (W c) (b ∷ []), length-W c g));
         fades = λ j l. rw (older-snoc j (W c) b) l;
@@ -158,7 +158,7 @@ module _ (R K : ℕ) (small : R < 255) where
       record {
         ring-length = length-set (c .ring) (c .next) b ∙ g .ring-length;
         counts-length =
-            length-set (uncounted (c .counts) (oldest c)) b (min (getD (uncounted (c .counts) (oldest c)) b 0 + 1) 255) ∙ low-length;
+            length-set (uncounted (c .counts) (oldest c)) b (getD (uncounted (c .counts) (oldest c)) b 0 + 1) ∙ low-length;
         next-below = mod-lt (c .next + 1) (omega arith);
         filled-within = g .filled-within;
         at-start = λ q. absurd (omega arith);
@@ -167,7 +167,7 @@ module _ (R K : ℕ) (small : R < 255) where
         window =
             ap (λ (f : ℕ). win ((c .next + 1) % R) f (set (c .ring) (c .next) b)) p ∙ win-pushed R (c .next) (c .ring) (g .ring-length) (g .next-below) b;
         tallied =
-            tally-counted K (uncounted (c .counts) (oldest c)) X b low-length h (omega (arith, X-length))
+            tally-counted K (uncounted (c .counts) (oldest c)) X b low-length h
             (tally-uncounted K (c .counts) X (oldest c) (g .counts-length) (g .bins-below (c .next) (g .next-below)) (subst (λ (w : List ℕ). Tallied K (c .counts) w) before (g .tallied)));
         lead-within = (let l : c .lead ≤ occ 0 (oldest c ∷ X) = subst (λ (w : List ℕ). c .lead ≤ occ 0 w) before (g .lead-within) in omega arith);
         keeps =
@@ -316,9 +316,9 @@ module _ (R K : ℕ) (small : R < 255) where
 
 -- ---- the document's soundness, and the window's
 
-pub sound-good : (R K : ℕ) → R < 255 → 0 < K → (c : ChannelFloor) → Sound R K c → Good R K c
+pub sound-good : (R K : ℕ) → 0 < K → (c : ChannelFloor) → Sound R K c → Good R K c
 unfolding Tallied
-sound-good R K small some c s =
+sound-good R K some c s =
     record {
       ring-length = s .ring-length;
       counts-length = s .counts-length;
@@ -326,13 +326,13 @@ sound-good R K small some c s =
       filled-within = s .filled-within;
       at-start = s .at-start;
       bins-below = s .bins-below;
-      tallied = λ x h. s .recount x h ∙ sym (window-entries R K small c (s .ring-length) (s .next-below) (s .filled-within) (s .at-start) x);
-      lead-within = omega (arith, s .lead-within, s .recount 0 some, window-entries R K small c (s .ring-length) (s .next-below) (s .filled-within) (s .at-start) 0);
+      tallied = λ x h. s .recount x h ∙ sym (window-entries R K c (s .ring-length) (s .next-below) (s .filled-within) (s .at-start) x);
+      lead-within = omega (arith, s .lead-within, s .recount 0 some, window-entries R K c (s .ring-length) (s .next-below) (s .filled-within) (s .at-start) 0);
     }
 
-pub good-sound : (R K : ℕ) → R < 255 → 0 < K → (c : ChannelFloor) → Good R K c → Sound R K c
+pub good-sound : (R K : ℕ) → 0 < K → (c : ChannelFloor) → Good R K c → Sound R K c
 unfolding Tallied
-good-sound R K small some c s =
+good-sound R K some c s =
     record {
       ring-length = s .ring-length;
       counts-length = s .counts-length;
@@ -340,6 +340,6 @@ good-sound R K small some c s =
       filled-within = s .filled-within;
       at-start = s .at-start;
       bins-below = s .bins-below;
-      recount = λ x h. s .tallied x h ∙ window-entries R K small c (s .ring-length) (s .next-below) (s .filled-within) (s .at-start) x;
-      lead-within = omega (arith, s .lead-within, s .tallied 0 some, window-entries R K small c (s .ring-length) (s .next-below) (s .filled-within) (s .at-start) 0);
+      recount = λ x h. s .tallied x h ∙ window-entries R K c (s .ring-length) (s .next-below) (s .filled-within) (s .at-start) x;
+      lead-within = omega (arith, s .lead-within, s .tallied 0 some, window-entries R K c (s .ring-length) (s .next-below) (s .filled-within) (s .at-start) 0);
     }

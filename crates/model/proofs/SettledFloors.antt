@@ -24,13 +24,10 @@ use Rattle.model.specs.GoodBank.{Good}
 use Rattle.model.specs.Demand3.{loud, firstSlowLoud}
 use Rattle.model.proofs.Quartiles.{quartile-same}
 
-pub small : 250 < 255
-small = omega arith
-
 -- ---- one bank, j slow hops after a start
 
 pub record FadingBank (j : ℕ) (b : FloorBank) : Type 0 where
-  pub fading : (k : ℕ) → k < b .n → Fading 250 280 small j (channel b k)
+  pub fading : (k : ℕ) → k < b .n → Fading 250 280 j (channel b k)
   pub seeded : 0 < j → (i : ℕ) → i < blocks (b .n) → 0 < getD (b .seeds) i 0
 
 seed-loud : (s : ℕ) (med : Float) → le histMin med ≡ true → 0 < s + one (takesSeed s med)
@@ -62,11 +59,11 @@ unfolding slowStep chansAfter
 chan-after b h k l = getD-tab (b .n) (later b h) k freshChannel l
 
 fading-later : (j : ℕ) (b : FloorBank) (h : Hop) → FadingBank j b → (j ≡ 0 → loud (b .n) (h .db) ≡ true) → (k : ℕ) → k < b .n
-    → Fading 250 280 small (suc j) (later b h k)
+    → Fading 250 280 (suc j) (later b h k)
 fading-later j b h f l k m =
     let p : 0 < getD (seedsAfter b (h .db)) (k / 32) 0 = seeds-after j b (h .db) f l (k / 32) (omega arith) in
     rw (ne-eqb 0 (getD (seedsAfter b (h .db)) (k / 32) 0) (λ e. omega arith))
-    (fading-in 250 280 small j (channel b k) (binOf (getD (h .db) k f0)) (f .fading k m) (bin-below (getD (h .db) k f0)))
+    (fading-in 250 280 j (channel b k) (binOf (getD (h .db) k f0)) (f .fading k m) (bin-below (getD (h .db) k f0)))
 
 fading-slow : (j : ℕ) (b : FloorBank) (h : Hop) → FadingBank j b → (j ≡ 0 → loud (b .n) (h .db) ≡ true) → FadingBank (suc j) (slowStep b h)
 fading-slow j b h f l =
@@ -106,7 +103,7 @@ near-fast j b d h e =
 near-later : (j : ℕ) (b d : FloorBank) (h : Hop) → FadingBank j b → FadingBank j d → NearBank j b d → (k : ℕ) → k < b .n
     → newest (suc j) (W (later b h k)) ≡ newest (suc j) (W (later d h k))
 near-later j b d h fb fd e k l =
-    near-in 250 280 small j (eqb 0 (getD (seedsAfter b (h .db)) (k / 32) 0)) (eqb 0 (getD (seedsAfter d (h .db)) (k / 32) 0)) (channel b k) (channel d k)
+    near-in 250 280 j (eqb 0 (getD (seedsAfter b (h .db)) (k / 32) 0)) (eqb 0 (getD (seedsAfter d (h .db)) (k / 32) 0)) (channel b k) (channel d k)
     (binOf (getD (h .db) k f0)) (fb .fading k l .good) (fd .fading k (omega (arith, e .same-n)) .good) (bin-below (getD (h .db) k f0)) (e .near k l)
 
 -- the seed is no longer looked at
@@ -121,24 +118,24 @@ effective-settled u f p s = refl
 -- ---- a channel, once 250 slow hops have passed
 
 module _ (j : ℕ) (far : 250 ≤ j) where
-  since-settled : (c : ChannelFloor) → Fading 250 280 small j c → since c ≡ 250
-  since-settled c f = omega (arith, lead-gone 250 280 small j far c f, filled-up 250 280 small j far c f)
+  since-settled : (c : ChannelFloor) → Fading 250 280 j c → since c ≡ 250
+  since-settled c f = omega (arith, lead-gone 250 280 j far c f, filled-up 250 280 j far c f)
 
   -- usable is raw
-  usable-settled : (c : ChannelFloor) → Fading 250 280 small j c → usableFloor c ≡ rawFloor c
+  usable-settled : (c : ChannelFloor) → Fading 250 280 j c → usableFloor c ≡ rawFloor c
   unfolding usableFloor rawFloor
-  usable-settled c f = rw (lead-gone 250 280 small j far c f, filled-up 250 280 small j far c f)
+  usable-settled c f = rw (lead-gone 250 280 j far c f, filled-up 250 280 j far c f)
 
-  raw-same : (c d : ChannelFloor) → Fading 250 280 small j c → Fading 250 280 small j d → newest j (W c) ≡ newest j (W d) → rawFloor c ≡ rawFloor d
+  raw-same : (c d : ChannelFloor) → Fading 250 280 j c → Fading 250 280 j d → newest j (W c) ≡ newest j (W d) → rawFloor c ≡ rawFloor d
   unfolding rawFloor quartile without
   raw-same c d f g e =
-      quartile-same (entries c) (entries d) (entries-equal 250 280 small j far c d f g e) (c .filled - 0) 280
-      (omega (arith, under-top c (good-sound 250 280 small (omega arith) c (f .good))))
-      ∙ ap (λ (r : ℕ). quartileOf (r - 0) (entries d)) (filled-up 250 280 small j far c f ∙ sym (filled-up 250 280 small j far d g))
+      quartile-same (entries c) (entries d) (entries-equal 250 280 j far c d f g e) (c .filled - 0) 280
+      (omega (arith, under-top c (good-sound 250 280 (omega arith) c (f .good))))
+      ∙ ap (λ (r : ℕ). quartileOf (r - 0) (entries d)) (filled-up 250 280 j far c f ∙ sym (filled-up 250 280 j far d g))
 
 -- the floors that a slow hop stores
-module _ (j : ℕ) (far : 250 ≤ j) (b d : FloorBank) (h : Hop) (same-n : b .n ≡ d .n) (fb : (k : ℕ) → k < b .n → Fading 250 280 small j (later b h k))
-    (fd : (k : ℕ) → k < b .n → Fading 250 280 small j (later d h k))
+module _ (j : ℕ) (far : 250 ≤ j) (b d : FloorBank) (h : Hop) (same-n : b .n ≡ d .n) (fb : (k : ℕ) → k < b .n → Fading 250 280 j (later b h k))
+    (fd : (k : ℕ) → k < b .n → Fading 250 280 j (later d h k))
     (near : (k : ℕ) → k < b .n → newest j (W (later b h k)) ≡ newest j (W (later d h k)))
   where
     -- the channels that a slow hop leaves
@@ -176,7 +173,7 @@ module _ (j : ℕ) (far : 250 ≤ j) (b d : FloorBank) (h : Hop) (same-n : b .n 
         ∙ ap₂ (λ (a c : List Float). fmax (fmin (getD a k f0) (add binary64 (getD c (k / 32) f0) f3)) (getD c (k / 32) f0)) e f
         ∙ sym (settled k (fd k l) (at d k (omega arith)) v y q t))
       where
-        settled : (k : ℕ) {c e : ChannelFloor} → Fading 250 280 small j c → e ≡ c → (u x : List Float) (p : List ℕ) (s : List Float)
+        settled : (k : ℕ) {c e : ChannelFloor} → Fading 250 280 j c → e ≡ c → (u x : List Float) (p : List ℕ) (s : List Float)
             → riseFloor (getD u k f0) (getD x (k / 32) f0) (since e) (getD p (k / 32) 0) (getD s (k / 32) f0)
             ≡ fmax (fmin (getD u k f0) (add binary64 (getD x (k / 32) f0) f3)) (getD x (k / 32) f0)
         settled k {c} {e} f q u x p s = rw (q, since-settled j far c f) (rise-settled (getD u k f0) (getD x (k / 32) f0) (getD p (k / 32) 0) (getD s (k / 32) f0))
@@ -298,7 +295,7 @@ settled-effective i l b d s k m =
 fading-good : (b : FloorBank) → Good b → FadingBank 0 b
 fading-good b g =
     record {
-      fading = λ k l. fading-start 250 280 small (channel b k) (sound-good 250 280 small (omega arith) (channel b k) (g .sound k l));
+      fading = λ k l. fading-start 250 280 (channel b k) (sound-good 250 280 (omega arith) (channel b k) (g .sound k l));
       seeded = λ z. absurd (omega arith);
     }
 
@@ -307,5 +304,5 @@ alike-start b d gb gd n p =
     record {
       one = fading-good b gb;
       other = fading-good d gd;
-      both = record { same-n = n; same-phase = p; near = λ k l. near-start 250 280 small (channel b k) (channel d k); floors = λ z. absurd (omega arith) };
+      both = record { same-n = n; same-phase = p; near = λ k l. near-start 250 280 (channel b k) (channel d k); floors = λ z. absurd (omega arith) };
     }

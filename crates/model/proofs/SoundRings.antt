@@ -14,10 +14,9 @@ use Rattle.model.specs.Stores.{soundFields, soundRing, soundCounts, soun
 use Rattle.model.specs.Sound.{Sound}
 use Rattle.model.proofs.Rings.{good-in, sound-good, good-sound}
 
-pub sound-push : (q : Bool) (c : ChannelFloor) (b : ℕ) → Sound 250 280 c → b < 280 → Sound 250 280 (pushIn 250 q c b)
-sound-push q c b s h =
-    good-sound 250 280 (omega arith) (omega arith) (pushIn 250 q c b)
-    (good-in 250 280 (omega arith) q c b (sound-good 250 280 (omega arith) (omega arith) c s) h)
+pub sound-push : {R K : ℕ} (q : Bool) (c : ChannelFloor) (b : ℕ) → Sound R K c → b < K → Sound R K (pushIn R q c b)
+sound-push {R} {K} q c b s h =
+    good-sound R K (omega arith) (pushIn R q c b) (good-in R K q c b (sound-good R K (omega arith) c s) h)
 
 -- a channel with nothing in it, of any size
 empty : (R K : ℕ) → 0 < R → 0 < K → Sound R K (record { ring = replicate R 0; counts = replicate K 0; next = 0; filled = 0; lead = 0 })

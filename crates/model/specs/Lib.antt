@@ -14,6 +14,9 @@ pub mod Bench
 pub mod Sound
 pub mod GoodBank
 pub mod GoodGate
+pub mod DeadBranches
+pub mod Carried
+pub mod SameAnswers
 pub mod Reach
 pub mod Demand3
 pub mod Sets

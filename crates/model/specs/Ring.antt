@@ -1,4 +1,4 @@
--- Document 01, "Ring and quartile".
+-- Document 01, "Ring and quartile", without what R-7 takes out: counts have no bounds, and there is no answer after the last bin.
 use mathlib.Core.Bool.{Bool, true, false, cond, _&&_}
 use mathlib.Core.List.{List, [], _∷_}
 use Prim.Native.Nat.{ℕ, zero, suc, _+_, _-_, _*_, _/_, _%_, min}
@@ -38,9 +38,9 @@ pub record ChannelFloor : Type 0 where
   pub filled : ℕ
   pub lead : ℕ
 
--- count updates saturate, in eight bits as in 000: up at 255, down at 0
+-- bin b is counted, and counted no more (R-7: on a sound channel a count stays within 0 to 250, and one that falls is at least 1)
 abbrev pub counted : List ℕ → ℕ → List ℕ
-counted cs b = set cs b (min (getD cs b 0 + 1) 255)
+counted cs b = set cs b (getD cs b 0 + 1)
 
 abbrev pub uncounted : List ℕ → ℕ → List ℕ
 uncounted cs b = set cs b (getD cs b 0 - 1)
@@ -103,9 +103,9 @@ unfoldable pub sorted : List ℕ → List ℕ
 sorted [] = []
 sorted (x ∷ l) = insert x (sorted l)
 
--- the k-th smallest, k from 1; running off the end gives the last bin
+-- the k-th smallest, k from 1 (R-7: a look-up past the end would give 0, which no sound store reaches)
 unfoldable pub smallest : ℕ → List ℕ → ℕ
-smallest k l = getD (sorted l) (k - 1) 279
+smallest k l = getD (sorted l) (k - 1) 0
 
 -- -140 if r = 0, else the centre of the ceil(r/4)-th smallest of l
 abbrev pub quartileOf : ℕ → List ℕ → Float

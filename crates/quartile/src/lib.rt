@@ -6,7 +6,7 @@ ghost use Rattle.model.specs.Ring.{entries, smallest, quartile, rawFloor, usabl
 ghost use Rattle.model.specs.Stores.{chanOf};
 ghost use Rattle.model.specs.Sound.{Sound};
 
-// The bin of the rank-th smallest entry: the first at which the counts so far come to rank.
+// The bin of the rank-th smallest entry: the first at which the counts so far come to rank. There is one: all counts come to filled.
 fn ranked_bin(chan: &[u16], rank: usize) -> u16
     requires { ⌜ (length (now chan) ≡ 533) × Sound 250 280 (chanOf (now chan)) ⌝ }
     requires { ⌜ (0 < rank) × (rank ≤ getD (now chan) 531 0) ⌝ }
@@ -14,14 +14,13 @@ fn ranked_bin(chan: &[u16], rank: usize) -> u16
 {
     let mut passed: usize = 0;
     let mut b: usize = 0;
-    while b < 280 {
+    loop {
         passed += laws::wide(chan[250 + b]);
         if passed >= rank {
             return b as u16;
         }
         b += 1;
     }
-    279
 }
 
 // Entries of bin 0 are the smallest, so to leave `skip` of them out is to look `skip` ranks further on.

@@ -2,12 +2,12 @@
 use mathlib.Core.Bool.{Bool, true, false, _&&_}
 use mathlib.Core.Path.{_≡_, refl, sym, ap, ap₂, _∙_}
 use mathlib.Core.List.{List, [], _∷_, _++_}
-use Prim.Native.Nat.{ℕ, zero, suc, _+_, _-_, _%_, _≤_, _<_, min}
-use native.Mathlib.Nat.{zero-add}
+use Prim.Native.Nat.{ℕ, _+_, _-_, _%_, _≤_, _<_}
+use native.Mathlib.Decide.{ℕ-discrete}
 use native.Mathlib.Omega.{arith}
 use lib.Dec.{eqb}
 use lib.ListN.{length, getD, set, length-take, length-set}
-use lib.Seq.{set-append-left}
+use lib.Seq.{set-append-left, getD-set-same, getD-set-other}
 use Rattle.laws.specs.Lists.{part, one}
 use Rattle.laws.proofs.Lists.{length-part, getD-part}
 use Rattle.model.specs.Ring.{ChannelFloor, uncounted, oldest, entries, pushAs, push, pushIn}
@@ -15,7 +15,9 @@ use Rattle.model.specs.Stores.{chanU, chanOf}
 use Rattle.ring.specs.Push.{roomed, entered, Roomy}
 use Rattle.model.specs.Sound.{Sound}
 use Rattle.laws.proofs.Counting.{occ-le, set-append-add}
+use Rattle.model.specs.DeadBranches.{CountsWithin}
 use Rattle.model.proofs.Channels.{chan-back, chan-forth, length-chanU}
+use Rattle.model.proofs.DeadBranches.{counts-within}
 
 -- ---- what the code stores into the 533 entries, as a channel
 
@@ -79,11 +81,11 @@ module _ (l : List ℕ) (long : length l ≡ 533) where
       D = getD l 532 0 - one (eqb 0 o)
 
   pub took : (b r : ℕ) → getD l 530 0 < 250 → b < 280
-      → set (set (set (set l (getD l 530 0) b) (250 + b) (min (getD l (250 + b) 0 + 1) 255)) 530 ((getD l 530 0 + 1) % 250)) 532 (getD l 532 0 + r)
+      → set (set (set (set l (getD l 530 0) b) (250 + b) (getD l (250 + b) 0 + 1)) 530 ((getD l 530 0 + 1) % 250)) 532 (getD l 532 0 + r)
       ≡ chanU (entered (chanOf l) b r)
   unfolding entered
   took b r n h =
-      ap (λ (v : ℕ). set (set (set (set l N b) (250 + b) (min (v + 1) 255)) 530 P) 532 D) (count-is b h)
+      ap (λ (v : ℕ). set (set (set (set l N b) (250 + b) (v + 1)) 530 P) 532 D) (count-is b h)
       ∙ ap (λ (x : List ℕ). set (set (set (set x N b) (250 + b) U) 530 P) 532 D) (sym (chan-forth l long))
       ∙ ap (λ (x : List ℕ). set (set (set x (250 + b) U) 530 P) 532 D) (in-ring R K (fieldsOf l) ring-long counts-long N b n)
       ∙ ap (λ (x : List ℕ). set (set x 530 P) 532 D) (in-counts R′ K (fieldsOf l) ring-long′ counts-long b U h)
@@ -109,7 +111,7 @@ module _ (l : List ℕ) (long : length l ≡ 533) where
       K = countsOf l
 
       U : ℕ
-      U = min (getD (countsOf l) b 0 + 1) 255
+      U = getD (countsOf l) b 0 + 1
 
       ring-long′ : length R′ ≡ 250
       ring-long′ = length-set R N b ∙ ring-long
@@ -159,6 +161,27 @@ module _ (l : List ℕ) (long : length l ≡ 533) where
   lead-falls true = omega arith
   lead-falls false = omega arith
 
+  room-small : (t : Bool) → Sound 250 280 (chanOf l) → (b : ℕ) → b < 280 → getD (roomed t (chanOf l) .counts) b 0 ≤ 250
+  unfolding roomed
+  room-small true s b h = go (ℕ-discrete b o)
+    where
+      o : ℕ
+      o = oldest (chanOf l)
+
+      w : CountsWithin 250 280 (chanOf l)
+      w = counts-within 250 280 (chanOf l) s
+
+      go : Dec (b ≡ o) → getD (uncounted (countsOf l) o) b 0 ≤ 250
+      go (yes e) =
+          omega (
+            arith,
+            ap (λ (x : ℕ). getD (uncounted (countsOf l) o) x 0) e,
+            getD-set-same (countsOf l) o (getD (countsOf l) o 0 - 1) 0 (omega (arith, counts-long l long)),
+            w .before o (omega arith),
+          )
+      go (no n) = omega (arith, getD-set-other (countsOf l) o b (getD (countsOf l) o 0 - 1) 0 n, w .before b h)
+  room-small false s b h = counts-within 250 280 (chanOf l) s .before b h
+
   next-stays : (t : Bool) → roomed t (chanOf l) .next ≡ getD l 530 0
   unfolding roomed
   next-stays true = refl
@@ -169,6 +192,9 @@ module _ (l : List ℕ) (long : length l ≡ 533) where
       record {
         long = length-chanU (roomed t (chanOf l)) (room-ring t) (room-counts t);
         next-below = omega (arith, ap (λ (c : ChannelFloor). c .next) (room-back t), next-stays t, s .next-below);
+        counts-small =
+            λ b h.
+            omega (arith, getD-part 250 280 (chanU (roomed t (chanOf l))) b 0 h, ap (λ (c : ChannelFloor). getD (c .counts) b 0) (room-back t), room-small t s b h);
         lead-small = omega (arith, ap (λ (c : ChannelFloor). c .lead) (room-back t), lead-falls t, lead-small s);
       }
 

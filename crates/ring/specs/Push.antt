@@ -35,4 +35,5 @@ entered c b r =
 pub record Roomy (l : List ℕ) : Type 0 where
   pub long : length l ≡ 533
   pub next-below : getD l 530 0 < 250
+  pub counts-small : (b : ℕ) → b < 280 → getD l (250 + b) 0 ≤ 250
   pub lead-small : getD l 532 0 ≤ 250

@@ -1,7 +1,7 @@
 // Document 01, "Ring and quartile": the bin of a dB value and the push into a channel's ring.
 ghost use mathlib.Core.Path.{_≡_};
 ghost use mathlib.Core.Bool.{_&&_, true};
-ghost use Prim.Native.Nat.{_+_, _-_, _%_, _<_, _≤_, min};
+ghost use Prim.Native.Nat.{_+_, _-_, _%_, _<_, _≤_};
 ghost use lib.Dec.{eqb};
 ghost use lib.ListN.{length, getD};
 ghost use Rattle.laws.specs.Lists.{one};
@@ -44,19 +44,6 @@ pub fn bin_centre(b: u16) -> f64
     -140.0 + ((b as f64) + 0.5) * 0.5
 }
 
-// A count is a u8 in floor.rs, and stays at 255.
-fn one_more(count: u16) -> u16
-    ensures { λ r. ⌜ r ≡ min (count + 1) 255 ⌝ }
-{
-    if count < 255 { count + 1 } else { 255 }
-}
-
-fn one_less(count: u16) -> u16
-    ensures { λ r. ⌜ r ≡ count - 1 ⌝ }
-{
-    if count == 0 { 0 } else { count - 1 }
-}
-
 fn next_place(next: u16) -> u16
     requires { ⌜ next < 250 ⌝ }
     ensures { λ r. ⌜ r ≡ (next + 1) % 250 ⌝ }
@@ -64,11 +51,17 @@ fn next_place(next: u16) -> u16
     (next + 1) % RING_LEN
 }
 
-// The lead that is left once `evicted` has gone.
+// The lead that is left once `evicted` has gone. Lead may be 0 when an entry of bin 0 leaves:
+// one taken later than the block's first seed push never counted as leading.
 fn lead_left(lead: u16, evicted: u16) -> u16
     ensures { λ r. ⌜ r ≡ lead - one (eqb 0 evicted) ⌝ }
 {
-    if evicted == 0 { one_less(lead) } else { lead }
+    if evicted == 0 {
+        if lead > 0 {
+            return lead - 1;
+        }
+    }
+    lead
 }
 
 // By how much the lead rises: a bin 0 in a block that has no seed push.
@@ -90,16 +83,17 @@ fn oldest_bin(chan: &[u16]) -> u16
     chan[next]
 }
 
-// The oldest is counted no more.
+// The oldest of a full ring is counted no more.
 fn evict(chan: &mut [u16])
     requires { ⌜ (length (now chan) ≡ 533) × Sound 250 280 (chanOf (now chan)) ⌝ }
+    requires { ⌜ getD (now chan) 531 0 ≡ 250 ⌝ }
     ensures { λ _. ⌜ now (chan .exit) ≡ chanU (roomed true (chanOf (now (chan .entry)))) ⌝ }
 {
     let oldest = oldest_bin(chan);
     let at = COUNTS + laws::wide(oldest);
     let count = chan[at];
     let lead = chan[LEAD];
-    chan[at] = one_less(count);
+    chan[at] = count - 1;
     chan[LEAD] = lead_left(lead, oldest);
 }
 
@@ -127,7 +121,7 @@ fn enter(chan: &mut [u16], bin: u16, rise: u16)
     let count = chan[at];
     let lead = chan[LEAD];
     chan[place] = bin;
-    chan[at] = one_more(count);
+    chan[at] = count + 1;
     chan[NEXT] = next_place(next);
     chan[LEAD] = lead + rise;
 }

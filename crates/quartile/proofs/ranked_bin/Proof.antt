@@ -1,15 +1,14 @@
 -- `quartile::ranked_bin` meets its contract. The loop's invariant: the entries below bin b were passed, fewer than the rank.
--- The measure is how many bins are left. Assumes nothing.
-use mathlib.Core.Path.{_≡_, ap, _∙_}
+-- The measure is how many bins are left: the scan ends inside, so one is left at each turn. Assumes nothing.
+use mathlib.Core.Path.{_≡_, _∙_}
 use mathlib.Core.List.{List}
-use Prim.Native.Nat.{ℕ, _+_, _-_}
+use Prim.Native.Nat.{ℕ, _+_, _-_, _<_}
 use native.Mathlib.Omega.{arith}
 use borrow.Author.Needs.{needs}
 use Rattle.laws.specs.Lists.{occ}
 use Rattle.model.specs.Ring.{entries}
 use Rattle.model.specs.Stores.{chanOf}
-use Rattle.model.proofs.Rank.{under}
-use Rattle.model.proofs.ChannelRank.{Scan, scan-begins, scan-turns, scan-finds, count-at, under-top}
+use Rattle.model.proofs.ChannelRank.{Scan, scan-begins, scan-inside, scan-turns, scan-finds, count-at}
 use Rattle.quartile.proofs.ranked_bin.Statement.{statement}
 use Rattle.quartile.proofs.ranked_bin.Tie as tie
 
@@ -22,61 +21,59 @@ abbrev μ-loop : tie.MeasureT-loop
 abbrev bins : tie.Start Inv-loop μ-loop → List ℕ
 bins s = entries (chanOf (s .args .chan .now))
 
--- what a turn reads is how often the bin occurs
-reads : (c : tie.After-wide Inv-loop μ-loop)
-    → c .wide .result ≡ occ (c .before .before .before .loop .b) (bins (c .before .before .before .before .before))
+-- a turn is at a bin of the histogram
+inside : (c : tie.At-loop Inv-loop μ-loop) → c .loop .b < 280
+inside c =
+    let s = c .before .before in
+    scan-inside (s .pre .0 .1) (c .loop .inv) (s .pre .1 .1)
+
+-- what it reads is how often the bin occurs
+reads : (c : tie.After-wide Inv-loop μ-loop) → c .wide .result ≡ occ (c .before .before .loop .b) (bins (c .before .before .before .before))
 reads c =
-    let l = c .before .before .before in
+    let l = c .before .before in
     let s = l .before .before in
-    c .wide .ensures ∙ count-at (s .args .chan .now) (l .loop .b) (s .pre .0 .1) (c .before .before .loop-test .taken)
+    c .wide .ensures ∙ count-at (s .args .chan .now) (l .loop .b) (s .pre .0 .1) (inside l)
 
 loop-holds : tie.Need-loop-holds Inv-loop μ-loop
 loop-holds c = scan-begins (bins (c .before)) (c .before .args .rank) (c .before .pre .1 .0)
 
 add-wide : tie.Need-add-wide Inv-loop μ-loop
-add-wide c = search needs
+add-wide c = omega (arith, inside c)
 
 mul-wide : tie.Need-mul-wide Inv-loop μ-loop
-mul-wide c = search needs
+mul-wide c = omega (arith, inside c)
 
 shared-slice-read-wide : tie.Need-shared-slice-read-wide Inv-loop μ-loop
-shared-slice-read-wide c = search needs
+shared-slice-read-wide c = omega (arith, inside (c .before))
 
 wide-requires : tie.Need-wide-requires Inv-loop μ-loop
 wide-requires c κs = search needs
 
 add-passed : tie.Need-add-passed Inv-loop μ-loop
 add-passed c =
-    let l = c .before .before .before in
+    let l = c .before .before in
     let s = l .before .before in
     omega (arith, l .loop .inv .short, s .pre .1 .1, s .pre .0 .1 .filled-within, c .wide .ensures, c .before .shared-slice-known2 .given (250 + l .loop .b))
 
 cast-result : tie.Need-cast-result Inv-loop μ-loop
-cast-result c = search needs
+cast-result c = omega (arith, inside (c .before .before .before))
 
 returns : tie.Need-returns Inv-loop μ-loop
 returns c =
     let w = c .before in
-    scan-finds (w .wide .result) (w .before .before .before .loop .inv) (reads w) (omega (arith, c .if1 .taken))
+    scan-finds (w .wide .result) (w .before .before .loop .inv) (reads w) (omega (arith, c .if1 .taken))
 
 add-b : tie.Need-add-b Inv-loop μ-loop
-add-b c = search needs
+add-b c = omega (arith, inside (c .before .before .before))
 
 loop-less : tie.Need-loop-less Inv-loop μ-loop
-loop-less c = search needs
+loop-less c = omega (arith, inside (c .before .before .before))
 
 loop-again : tie.Need-loop-again Inv-loop μ-loop
 loop-again c =
     let w = c .before in
-    scan-turns (w .wide .result) (w .before .before .before .loop .inv) (reads w) (w .before .before .loop-test .taken) (omega (arith, c .if1 .left))
-
--- a rank of a sound channel is never past its last bin
-returns-2 : tie.Need-returns-2 Inv-loop μ-loop
-returns-2 c =
-    let l = c .before in
-    let s = l .before .before in
-    let e : l .loop .b ≡ 280 = omega (arith, l .loop .inv .most, c .loop-test .left) in
-    absurd (omega (arith, l .loop .inv .sum, l .loop .inv .short, ap (λ (b : ℕ). under b (bins s)) e, under-top (chanOf (s .args .chan .now)) (s .pre .0 .1), s .pre .1 .1))
+    let l = w .before .before in
+    scan-turns (w .wide .result) (l .loop .inv) (reads w) (inside l) (omega (arith, c .if1 .left))
 
 pub ranked-bin-spec : {M : Type 1} → statement M
 ranked-bin-spec =
@@ -94,5 +91,4 @@ ranked-bin-spec =
     returns
     add-b
     loop-less
-    loop-again
-    returns-2)
+    loop-again)

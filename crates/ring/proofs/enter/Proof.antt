@@ -1,6 +1,8 @@
 -- What the four stores leave is the channel with the bin entered. Assumes nothing.
+use mathlib.Core.Path.{ap}
+use Prim.Native.Nat.{ℕ, _+_}
 use native.Mathlib.Omega.{arith}
-use lib.ListN.{length-set}
+use lib.ListN.{getD, length-set}
 use Rattle.ring.proofs.Entered.{took}
 use borrow.Author.Needs.{needs}
 use Rattle.ring.proofs.enter.Statement.{statement}
@@ -33,8 +35,11 @@ mul-chan c = search needs
 slice-write-chan : tie.Need-slice-write-chan
 slice-write-chan c = search needs
 
-one-more-requires : tie.Need-one-more-requires
-one-more-requires c κs = search needs
+add-chan : tie.Need-add-chan
+add-chan c =
+    let w = c .before .before in
+    let s = w .before .before .before .before in
+    omega (arith, ap (λ (k : ℕ). getD (s .args .chan .now) (250 + k) 0) (w .wide2 .ensures), s .pre .0 .counts-small (s .args .bin) (s .pre .1 .0))
 
 mul-chan-2 : tie.Need-mul-chan-2
 mul-chan-2 c = search needs
@@ -48,8 +53,8 @@ next-place-requires c κs = search needs
 slice-write-chan-3 : tie.Need-slice-write-chan-3
 slice-write-chan-3 c = search needs
 
-add-chan : tie.Need-add-chan
-add-chan c = search needs
+add-chan-2 : tie.Need-add-chan-2
+add-chan-2 c = search needs
 
 slice-write-chan-4 : tie.Need-slice-write-chan-4
 slice-write-chan-4 c = search needs
@@ -59,9 +64,9 @@ same-length c = search needs
 
 returns : tie.Need-returns
 returns c =
-    let w = c .before .before .before .before in
+    let w = c .before .before .before in
     let s = w .before .before .before .before in
-    simp (c .next-place .ensures, c .before .one-more .ensures, w .wide2 .ensures, w .before .wide .ensures)
+    simp (c .next-place .ensures, w .wide2 .ensures, w .before .wide .ensures)
     (took (s .args .chan .now) (s .pre .0 .long) (s .args .bin) (s .args .rise) (s .pre .0 .next-below) (s .pre .1 .0))
 
 pub enter-spec : {M : Type 1} → statement M
@@ -77,12 +82,12 @@ enter-spec =
     slice-read-lead
     mul-chan
     slice-write-chan
-    one-more-requires
+    add-chan
     mul-chan-2
     slice-write-chan-2
     next-place-requires
     slice-write-chan-3
-    add-chan
+    add-chan-2
     slice-write-chan-4
     same-length
     returns)

@@ -1,4 +1,11 @@
 -- What the two stores leave is the channel without its oldest. Assumes nothing.
+use mathlib.Core.Path.{sym, ap, _∙_}
+use Prim.Native.Nat.{ℕ, _+_}
+use native.Mathlib.Omega.{arith}
+use lib.ListN.{getD}
+use Rattle.laws.proofs.Lists.{getD-part}
+use Rattle.model.specs.Stores.{chanOf}
+use Rattle.model.proofs.DeadBranches.{counts-within}
 use Rattle.ring.proofs.Entered.{evicted}
 use borrow.Author.Needs.{needs}
 use Rattle.ring.proofs.evict.Statement.{statement}
@@ -22,8 +29,18 @@ slice-read-count c = search needs
 slice-read-lead : tie.Need-slice-read-lead
 slice-read-lead c = search needs
 
-one-less-requires : tie.Need-one-less-requires
-one-less-requires c κs = search needs
+sub-chan : tie.Need-sub-chan
+sub-chan c =
+    let w = c .before .before in
+    let o = w .before .oldest-bin in
+    let s = w .before .before .before .before in
+    let l = s .args .chan .now in
+    omega (
+      arith,
+      ap (λ (k : ℕ). getD l (250 + k) 0) (w .wide .ensures),
+      sym (getD-part 250 280 l (o .result) 0 (o .ensures .1)) ∙ ap (λ (k : ℕ). getD (chanOf l .counts) k 0) (o .ensures .0),
+      counts-within 250 280 (chanOf l) (s .pre .0 .1) .lowered (s .pre .1),
+    )
 
 mul-chan : tie.Need-mul-chan
 mul-chan c = search needs
@@ -42,11 +59,11 @@ same-length c = search needs
 
 returns : tie.Need-returns
 returns c =
-    let w = c .before .before .before .before in
+    let w = c .before .before .before in
     let o = w .before .oldest-bin in
     let s = w .before .before .before .before in
-    rw (c .lead-left .ensures, c .before .one-less .ensures, w .wide .ensures)
-    (evicted (s .args .chan .now) (s .pre .0) (o .result) (o .ensures .0) (o .ensures .1))
+    rw (c .lead-left .ensures, w .wide .ensures)
+    (evicted (s .args .chan .now) (s .pre .0 .0) (o .result) (o .ensures .0) (o .ensures .1))
 
 pub evict-spec : {M : Type 1} → statement M
 evict-spec =
@@ -58,7 +75,7 @@ evict-spec =
     mul-count
     slice-read-count
     slice-read-lead
-    one-less-requires
+    sub-chan
     mul-chan
     slice-write-chan
     lead-left-requires
