@@ -36,7 +36,7 @@ fn is_set_past(log: &[u8], at: usize, n: usize) -> bool
 }
 
 // How many channels have a pair.
-fn count_set(log: &[u8], at: usize, n: usize) -> usize
+pub fn count_set(log: &[u8], at: usize, n: usize) -> usize
     requires { ⌜ (n ≤ 512) × (at + width n ≤ length (now log)) ⌝ }
     ensures { λ r. ⌜ (r ≡ tally n (isSet (now (log .entry)) at)) × (r ≤ n) ⌝ }
 {

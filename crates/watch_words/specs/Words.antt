@@ -158,7 +158,7 @@ awaiting s d i = noted s d (s .fault) i
 abbrev pub printing : Settings → Bool → Bool → Bool → Settings
 printing s csv reference help = asking s csv reference help (s .«is_log») (s .file)
 
--- the recording is word i
+-- the file is word i
 abbrev pub filed : Settings → ℕ → Settings
 filed s i = asking s (s .«is_csv») (s .«has_reference») (s .«is_help») (s .«is_log») i
 
@@ -172,7 +172,7 @@ levelled s a b e = valued s a b e (s .lengths)
 abbrev pub counting : Settings → ℕ → Settings
 counting s n = valued s (s .on) (s .off) (s .early) n
 
--- a second recording is a fault
+-- a second file is a fault
 unfoldable pub withFile : Settings → ℕ → Settings
 withFile s i = cond (eqb (s .file) 0) (filed s i) (faulty s secondFile i)
 

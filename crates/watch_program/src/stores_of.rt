@@ -1,4 +1,4 @@
-// The stores that a recording needs, on the stack, and their parts.
+// The stores that a recording or a log needs, on the stack, and their parts.
 use laws::wide;
 use watch_notices::faults;
 use watch_notices::head;

@@ -1,7 +1,7 @@
 use Prim.Native.Nat.{_-_}
 use borrow.Author.Needs.{needs}
-use Rattle.watch.proofs.read_words.Statement.{statement}
-use Rattle.watch.proofs.read_words.Tie as tie
+use Rattle.watch_program.proofs.read_words.Statement.{statement}
+use Rattle.watch_program.proofs.read_words.Tie as tie
 
 abbrev Inv-loop : tie.InvT-loop
 Inv-loop lengths₀ s₀ i₀ i-end lengths s i = Unit {0}

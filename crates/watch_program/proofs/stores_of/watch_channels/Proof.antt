@@ -2,8 +2,8 @@ use mathlib.Core.Path.{sym}
 use native.Mathlib.Omega.{arith}
 use lib.Seq.{length-take-le}
 use borrow.Author.Needs.{needs}
-use Rattle.watch.proofs.stores_of.watch_channels.Statement.{statement}
-use Rattle.watch.proofs.stores_of.watch_channels.Tie as tie
+use Rattle.watch_program.proofs.stores_of.watch_channels.Statement.{statement}
+use Rattle.watch_program.proofs.stores_of.watch_channels.Tie as tie
 
 returns : tie.Need-returns
 returns c = search needs
