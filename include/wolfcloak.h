@@ -5,7 +5,7 @@
  * caller lends to each call. A slice is a pointer and then its length in elements. No pointer may be NULL, that of an empty
  * slice neither, and what a call writes may not overlap anything else lent to it.
  *
- * Every call answers 0, or the number of the first refusal that is due (and the reader of a log WOLFCLOAK_END). A refusal changes nothing: stores, outputs and values
+ * Every call answers 0, or the number of the first refusal that is due. A refusal changes nothing: stores, outputs and values
  * hold what they held before. Any contents of a store and any bits of a float may be handed in; a call tests the whole of each
  * store that it is lent first.
  *
@@ -38,16 +38,17 @@ extern "C" {
 #define WOLFCLOAK_REFUSED_UNSOUND 9    /* a store doesn't hold what these calls can leave in one */
 #define WOLFCLOAK_REFUSED_CUT 10       /* a log ends inside its header or a hop; a position below 2 or past the log */
 #define WOLFCLOAK_REFUSED_DAMAGED 11   /* a log has a set bit past n, or a pair that did not change */
+#define WOLFCLOAK_REFUSED_SEGMENTS 14  /* a tick: count outside 1..8, a bit set past count, or a last served not below count */
 
-/* Numbers for calls that are still to come; none of those below answers them. */
+/* Numbers of calls that are still to come; none of those below answers them. */
 #define WOLFCLOAK_REFUSED_SPAN 12      /* a worst floor of late over fewer than 1 or more than 600 slow hops */
 #define WOLFCLOAK_REFUSED_UNLIKE 13    /* two logs that differ in n or in their number of hops */
-#define WOLFCLOAK_REFUSED_SEGMENTS 14  /* segments: a count outside 1..8, or a segment that isn't there */
 #define WOLFCLOAK_REFUSED_ADDRESS 15   /* a register's address past the map */
 #define WOLFCLOAK_REFUSED_RIGHT 16     /* a role that isn't there, or one that lacks the right */
 
-/* An answer that is no refusal. Nothing is written with it. */
+/* Answers that are no refusals, with which nothing is written either. */
 #define WOLFCLOAK_END 100              /* the log has no further hop */
+#define WOLFCLOAK_NONE_WAITING 102     /* a tick: no segment has a hop waiting */
 
 /* ---- the bank: a noise floor for each of n channels, 1 to 512 ---- */
 
@@ -190,6 +191,23 @@ uint16_t wolfcloak_log_channels(const uint8_t *log, size_t log_len, size_t *n);
  */
 uint16_t wolfcloak_log_read(const uint8_t *log, size_t log_len, size_t *position,
                             uint64_t *db_bits, size_t db_bits_len, uint32_t *power_bits, size_t power_bits_len);
+
+/* ---- several band segments, 1 to 8, each with a bank and a gate of its own, on one processor ---- */
+
+/*
+ * One tick: names the segment whose hop is heard next. Bit i of waiting is 1 where segment i has a hop waiting. The named one is
+ * the first of these after the last served, going round; so a segment that is waiting at count ticks in a row is served in one of
+ * them, whatever the others do.
+ *
+ * The caller keeps one number for all segments, last, which is count - 1 at first, so that segment 0 comes first. At each tick it
+ *   - sets the bit of each segment that has a hop waiting, and hands in the same count and the number that the tick before left;
+ *   - where the answer is 0: makes the bank update and the gate update of segment *last with its hop, on that segment's stores;
+ *     the hop waits no longer, and if it is refused there it counts as served all the same;
+ *   - where the answer is WOLFCLOAK_NONE_WAITING: has nothing to do, and *last is what it was.
+ *
+ * Refuses with 14, also where none is waiting: count outside 1..8, a set bit numbered count or more, or *last not below count.
+ */
+uint16_t wolfcloak_dispatch(size_t count, uint8_t waiting, size_t *last);
 
 #ifdef __cplusplus
 }

@@ -16,6 +16,7 @@ mod plain_log;
 mod rules;
 mod runs;
 mod sample;
+mod segments;
 mod tally;
 mod wolfcloak;
 
@@ -28,7 +29,8 @@ use tally::Tally;
 
 const SIZES: [usize; 13] = [1, 2, 3, 4, 5, 6, 31, 32, 33, 64, 65, 511, 512];
 
-/// Job i: the making of banks and gates and the hop logs, two histories, arbitrary stores of some size, or a run of some size and plan.
+/// Job i: the making of banks and gates, the hop logs and the dispatcher, two histories, arbitrary stores of some size, or a run of some
+/// size and plan.
 fn job(i: usize, seed: u64, alone: &mut Alone) -> Option<Tally> {
     let mut t = Tally::default();
     let mut rng = Rng(seed ^ (i as u64) << 32);
@@ -38,6 +40,8 @@ fn job(i: usize, seed: u64, alone: &mut Alone) -> Option<Tally> {
         faults::any_settings(&mut t, &mut rng);
         history::no_call_too_many(&mut t);
         logs::any_logs(&mut t, &mut rng);
+        segments::all_ticks(&mut t);
+        segments::fair_runs(&mut t, &mut rng);
     } else if i <= histories {
         history::any_histories(&mut t, &SETTINGS[i - 1], &mut rng);
     } else if i <= histories + SIZES.len() {

@@ -46,6 +46,7 @@ extern "C" {
         b: *const u16, bl: usize, f: *const f64, fl: usize, g: *const u16, gl: usize, h: *const f64, hl: usize,
         k: usize, value: *mut f64,
     ) -> u16;
+    fn wolfcloak_dispatch(count: usize, waiting: u8, last: *mut usize) -> u16;
 }
 
 pub fn bank_new(u: &mut [u16], f: &mut [f64], n: usize) -> u16 {
@@ -141,4 +142,8 @@ pub fn ema_rise(bank: (&[u16], &[f64]), gate: (&[u16], &[f64]), k: usize, value:
             gate.0.as_ptr(), gate.0.len(), gate.1.as_ptr(), gate.1.len(), k, value,
         )
     }
+}
+
+pub fn dispatch(count: usize, waiting: u8, last: &mut usize) -> u16 {
+    unsafe { wolfcloak_dispatch(count, waiting, last) }
 }

@@ -141,6 +141,27 @@ static void early_rise(void)
            WOLFCLOAK_REFUSED_MISMATCH);
 }
 
+/* Three segments: each in turn, going round, past those that have nothing; none waiting and a refusal leave the last served. */
+static void ticks(void)
+{
+    size_t last = 2;
+
+    expect("dispatch", wolfcloak_dispatch(3, 7, &last), WOLFCLOAK_OK);
+    expect("the first tick's segment", last, 0);
+    expect("dispatch", wolfcloak_dispatch(3, 5, &last), WOLFCLOAK_OK);
+    expect("the next that is waiting", last, 2);
+    expect("dispatch", wolfcloak_dispatch(3, 6, &last), WOLFCLOAK_OK);
+    expect("the first one going round", last, 1);
+    expect("dispatch", wolfcloak_dispatch(3, 2, &last), WOLFCLOAK_OK);
+    expect("the last served, alone", last, 1);
+    expect("no hop", wolfcloak_dispatch(3, 0, &last), WOLFCLOAK_NONE_WAITING);
+    expect("a bit past count", wolfcloak_dispatch(3, 8, &last), WOLFCLOAK_REFUSED_SEGMENTS);
+    expect("a last served not below count", wolfcloak_dispatch(1, 1, &last), WOLFCLOAK_REFUSED_SEGMENTS);
+    expect("no segments", wolfcloak_dispatch(0, 0, &last), WOLFCLOAK_REFUSED_SEGMENTS);
+    expect("nine segments, no hop", wolfcloak_dispatch(9, 0, &last), WOLFCLOAK_REFUSED_SEGMENTS);
+    expect("the last served as it was", last, 1);
+}
+
 int main(void)
 {
     bench_d();
@@ -148,6 +169,7 @@ int main(void)
     hear_noise();
     window_rise();
     early_rise();
+    ticks();
     puts(wrong ? "tests/link: failed" : "tests/link: ok");
     return wrong != 0;
 }

@@ -16,6 +16,8 @@ pub struct Middle {
     pub place: usize,
 }
 
+// R-2: no division and no remainder, on which a handset's processor spends longest. A place is never a whole turn too far, so a comparison
+// finds what the remainder would.
 impl Cursor {
     // One hop on: the place wraps at 2m, and filled stops there.
     pub fn advance(self) -> Cursor
@@ -25,20 +27,19 @@ impl Cursor {
         let m = self.m;
         let at = self.at;
         let filled = self.filled;
-        let width = 2 * m;
-        let next = (at + 1) % width;
+        let width = m + m;
+        let mut next = at + 1;
+        if next >= width {
+            next = 0;
+        }
+        let mut grown = width;
         if filled < width {
-            let grown = filled + 1;
-            return Cursor {
-                m: m,
-                at: next,
-                filled: grown,
-            };
+            grown = filled + 1;
         }
         Cursor {
             m: m,
             at: next,
-            filled: width,
+            filled: grown,
         }
     }
 
@@ -49,7 +50,10 @@ impl Cursor {
     {
         let m = self.m;
         let at = self.at;
-        let place = (at + m) % (2 * m);
+        let mut place = at + m;
+        if at >= m {
+            place = at - m;
+        }
         Middle {
             cursor: self,
             place: place,

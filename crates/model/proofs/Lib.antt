@@ -23,3 +23,4 @@ pub mod Calls
 pub mod Made
 pub mod Demand3
 pub mod Sets
+pub mod Segments

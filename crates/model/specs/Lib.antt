@@ -21,3 +21,4 @@ pub mod Reach
 pub mod Demand3
 pub mod Sets
 pub mod Exports
+pub mod Segments
