@@ -11,6 +11,7 @@ mod floor;
 mod history;
 mod log_rows;
 mod logs;
+mod louder;
 mod numbers;
 mod plain_log;
 mod rules;
@@ -29,12 +30,13 @@ use tally::Tally;
 
 const SIZES: [usize; 13] = [1, 2, 3, 4, 5, 6, 31, 32, 33, 64, 65, 511, 512];
 
-/// Job i: the making of banks and gates, the hop logs and the dispatcher, two histories, arbitrary stores of some size, or a run of some
-/// size and plan.
+/// Job i: the making of banks and gates, the hop logs and the dispatcher, two histories, two lists of which one is louder, arbitrary
+/// stores of some size, or a run of some size and plan.
 fn job(i: usize, seed: u64, alone: &mut Alone) -> Option<Tally> {
     let mut t = Tally::default();
     let mut rng = Rng(seed ^ (i as u64) << 32);
     let histories = SETTINGS.len();
+    let lists = histories + louder::PAIRS;
     if i == 0 {
         faults::any_n(&mut t, &mut rng);
         faults::any_settings(&mut t, &mut rng);
@@ -42,13 +44,16 @@ fn job(i: usize, seed: u64, alone: &mut Alone) -> Option<Tally> {
         logs::any_logs(&mut t, &mut rng);
         segments::all_ticks(&mut t);
         segments::fair_runs(&mut t, &mut rng);
+        louder::no_more(&mut t);
     } else if i <= histories {
         history::any_histories(&mut t, &SETTINGS[i - 1], &mut rng);
-    } else if i <= histories + SIZES.len() {
-        let n = SIZES[i - histories - 1];
+    } else if i <= lists {
+        louder::any_pair(&mut t, i - histories - 1, &mut rng);
+    } else if i <= lists + SIZES.len() {
+        let n = SIZES[i - lists - 1];
         (0..6000 / (n + 10)).for_each(|_| faults::any_sound_store(&mut t, n, &mut rng));
     } else {
-        let run = i - histories - SIZES.len() - 1;
+        let run = i - lists - SIZES.len() - 1;
         let n = *SIZES.get(run / PLANS.len())?;
         runs::run(&mut t, n, &PLANS[run % PLANS.len()], LENGTHS[run % LENGTHS.len()], &mut rng, alone);
     }

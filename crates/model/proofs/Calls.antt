@@ -1,5 +1,6 @@
 -- Calls on the stores of a sound bank and a sound gate: they stay sound, a list of calls is its accepted bank updates on the bank and its
--- accepted gate updates on the gate, and what is refused hangs on the bank's n and phase, the gate's n and the arguments. Assumes nothing.
+-- accepted gate updates on the gate, and what is refused hangs on the bank's n and phase, the gate's n and the arguments. What is said of
+-- the bank alone asks nothing of the gate. Assumes nothing.
 use mathlib.Core.Path.{_≡_, refl, sym, ap, ap₂, _∙_, subst}
 use mathlib.Core.List.{List, [], _∷_, _++_, map}
 use mathlib.Core.Bool.{_&&_, _||_}
@@ -37,6 +38,19 @@ good-gate-run (h ∷ hs) g q = good-gate-run hs (gateStep g (h .db) (h .power)) 
 
 -- ---- what a call leaves
 
+-- of the bank, whatever the gate's stores hold
+pub record SoundBank (s : Stores) : Type 0 where
+  pub bank-passes : bankRefusal (s .bu) (s .bf) ≡ 0
+  pub bank-good : Good (bankIn s)
+
+pub sound-bank : (s : Stores) → Sound s → SoundBank s
+sound-bank s v = record { bank-passes = v .bank-passes; bank-good = v .bank-good }
+
+pub record LeftBank (s : Stores) (c : Call) : Type 0 where
+  pub bank-passes : bankRefusal (left s c .bu) (left s c .bf) ≡ 0
+  pub bank-is : bankIn (left s c) ≡ runBank (bankIn s) (bankHop (answer s c) (arguments c))
+
+-- of both
 pub record Left (s : Stores) (c : Call) : Type 0 where
   pub bank-passes : bankRefusal (left s c .bu) (left s c .bf) ≡ 0
   pub bank-is : bankIn (left s c) ≡ runBank (bankIn s) (bankHop (answer s c) (arguments c))
@@ -76,39 +90,55 @@ leaves-gate u f h i j p g zero =
     (gate-passes (gateStep (gateOf u f) (h .db) (h .power)) q, gate-back (gateStep (gateOf u f) (h .db) (h .power)) q)
 leaves-gate u f h i j p g (suc r) = (p, refl)
 
-pub left-is : (s : Stores) → Sound s → (c : Call) → Left s c
-unfolding step bankUpdate gateUpdate
-left-is s v (bank h) =
+pub left-bank : (s : Stores) → SoundBank s → (c : Call) → LeftBank s c
+unfolding step bankUpdate
+left-bank s v (bank h) =
     let b = leaves-bank (s .bu) (s .bf) h (v .bank-passes) (v .bank-good) (updateRefusal (s .bu) (s .bf) (h .db) (h .power)) in
+    record { bank-passes = b .0; bank-is = b .1 }
+left-bank s v (gate h rise drop) =
+    record { bank-passes = v .bank-passes; bank-is = sym (ap (runBank (bankIn s)) (no-bank (answer s (gate h rise drop)) h _ _)) }
+left-bank s v (hold rise drop) =
+    record { bank-passes = v .bank-passes; bank-is = sym (ap (runBank (bankIn s)) (no-bank-hold (answer s (hold rise drop)) _ _)) }
+
+pub left-is : (s : Stores) → Sound s → (c : Call) → Left s c
+unfolding step gateUpdate
+left-is s v (bank h) =
+    let b = left-bank s (sound-bank s v) (bank h) in
     record {
-      bank-passes = b .0;
-      bank-is = b .1;
+      bank-passes = b .bank-passes;
+      bank-is = b .bank-is;
       gate-passes = v .gate-passes;
       gate-is = sym (ap (runGate (gateIn s)) (no-gate (answer s (bank h)) h));
     }
 left-is s v (gate h rise drop) =
+    let b = left-bank s (sound-bank s v) (gate h rise drop) in
     let g = leaves-gate (s .gu) (s .gf) h (length rise) (length drop) (v .gate-passes) (v .gate-good)
     (gateUpdateRefusal (s .bu) (s .bf) (s .gu) (s .gf) (length (h .db)) (length (h .power)) (length rise) (length drop)) in
-    record {
-      bank-passes = v .bank-passes;
-      bank-is = sym (ap (runBank (bankIn s)) (no-bank (answer s (gate h rise drop)) h _ _));
-      gate-passes = g .0;
-      gate-is = g .1;
-    }
+    record { bank-passes = b .bank-passes; bank-is = b .bank-is; gate-passes = g .0; gate-is = g .1 }
 left-is s v (hold rise drop) =
+    let b = left-bank s (sound-bank s v) (hold rise drop) in
     record {
-      bank-passes = v .bank-passes;
-      bank-is = sym (ap (runBank (bankIn s)) (no-bank-hold (answer s (hold rise drop)) _ _));
+      bank-passes = b .bank-passes;
+      bank-is = b .bank-is;
       gate-passes = v .gate-passes;
       gate-is = sym (ap (runGate (gateIn s)) (no-gate-hold (answer s (hold rise drop)) _ _));
     }
 
-pub sound-left : (s : Stores) (c : Call) → Sound s → Sound (left s c)
-sound-left s c v =
-    let l = left-is s v c in
+pub bank-left : (s : Stores) (c : Call) → SoundBank s → SoundBank (left s c)
+bank-left s c v =
+    let l = left-bank s v c in
     record {
       bank-passes = l .bank-passes;
       bank-good = subst Good (sym (l .bank-is)) (good-run (bankHop (answer s c) (arguments c)) (bankIn s) (v .bank-good));
+    }
+
+pub sound-left : (s : Stores) (c : Call) → Sound s → Sound (left s c)
+sound-left s c v =
+    let b = bank-left s c (sound-bank s v) in
+    let l = left-is s v c in
+    record {
+      bank-passes = b .bank-passes;
+      bank-good = b .bank-good;
       gate-passes = l .gate-passes;
       gate-good = subst GoodGate (sym (l .gate-is)) (good-gate-run (gateHop (answer s c) (arguments c)) (gateIn s) (v .gate-good));
     }
@@ -127,11 +157,11 @@ gate-append : (xs ys : List GateHop) (g : Gate) → runGate g (xs ++ ys) ≡ run
 gate-append [] ys g = refl
 gate-append (x ∷ xs) ys g = gate-append xs ys (gateStep g (x .db) (x .power))
 
-pub bank-run : (cs : List Call) (s : Stores) → Sound s → bankIn (leftBy s cs) ≡ runBank (bankIn s) (bankHops s cs)
+pub bank-run : (cs : List Call) (s : Stores) → SoundBank s → bankIn (leftBy s cs) ≡ runBank (bankIn s) (bankHops s cs)
 bank-run [] s v = refl
 bank-run (c ∷ cs) s v =
-    bank-run cs (left s c) (sound-left s c v)
-    ∙ ap (λ (b : FloorBank). runBank b (bankHops (left s c) cs)) (left-is s v c .bank-is)
+    bank-run cs (left s c) (bank-left s c v)
+    ∙ ap (λ (b : FloorBank). runBank b (bankHops (left s c) cs)) (left-bank s v c .bank-is)
     ∙ sym (bank-append (bankHop (answer s c) (arguments c)) (bankHops (left s c) cs) (bankIn s))
 
 pub gate-run : (cs : List Call) (s : Stores) → Sound s → gateIn (leftBy s cs) ≡ runGate (gateIn s) (gateHops s cs)
@@ -158,9 +188,13 @@ pub gate-answer : (r : ℕ) (g : Gate) (u : List ℕ) (f : List Float) → gateL
 gate-answer zero g u f = refl
 gate-answer (suc r) g u f = refl
 
+pub bank-answer : (s : Stores) → SoundBank s → (h : Hop) (ng : ℕ) → answer s (bank h) ≡ refuse (bankIn s .n) (bankIn s .phase) ng (bank h)
+unfolding step bankUpdate updateRefusal bankOf refuse
+bank-answer s v h ng = leaves-answer (updateRefusal (s .bu) (s .bf) (h .db) (h .power)) _ (s .bu) (s .bf) ∙ rw (v .bank-passes)
+
 pub answer-is : (s : Stores) → Sound s → (c : Call) → answer s c ≡ refuse (bankIn s .n) (bankIn s .phase) (gateIn s .n) (arguments c)
-unfolding step bankUpdate updateRefusal gateUpdate gateUpdateRefusal pairRefusal gateHold holdRefusal bankOf gateOf refuse
-answer-is s v (bank h) = leaves-answer (updateRefusal (s .bu) (s .bf) (h .db) (h .power)) _ (s .bu) (s .bf) ∙ rw (v .bank-passes)
+unfolding step gateUpdate gateUpdateRefusal pairRefusal gateHold holdRefusal bankOf gateOf refuse
+answer-is s v (bank h) = bank-answer s (sound-bank s v) h (gateIn s .n)
 answer-is s v (gate h rise drop) =
     gate-answer (gateUpdateRefusal (s .bu) (s .bf) (s .gu) (s .gf) (length (h .db)) (length (h .power)) (length rise) (length drop)) _ (s .gu) (s .gf)
     ∙ rw (v .bank-passes, v .gate-passes)

@@ -16,14 +16,14 @@ use Rattle.model.specs.Demand3.{Call, Arguments, bank, gate, hold, Store
 use Rattle.model.specs.Sets.{gateIn, Sound}
 use Rattle.model.proofs.SettledFloors.{runBank, n-run, phase-run, Alike, alike-start, settles, settled-effective}
 use Rattle.model.proofs.Rises.{runGate, SameMake, make-run, started-run, looks-forget, rises-same}
-use Rattle.model.proofs.Calls.{sound-run, bank-run, gate-run, Twins, same-answer, SameRun, same-run, judged, rises-are}
-use Rattle.model.proofs.Made.{settings, stored-absent, lengths-good, bank-made, gate-made, sound-made}
+use Rattle.model.proofs.Calls.{sound-bank, sound-run, bank-run, gate-run, Twins, same-answer, SameRun, same-run, judged, rises-are}
+use Rattle.model.proofs.Made.{settings, stored-absent, lengths-good, bank-hears, gate-made, sound-made}
 
 -- ---- a set that has heard a list
 
 module _ (k : Making) (p : Stores) (d : Made k p) where
   bank-heard : (cs : List Call) → bankIn (leftBy (made k p) cs) ≡ runBank (freshBank (k .n)) (bankHops (made k p) cs)
-  bank-heard cs = bank-run cs (made k p) (sound-made k p d) ∙ ap (λ (b : FloorBank). runBank b (bankHops (made k p) cs)) (bank-made k p d)
+  bank-heard = bank-hears k p (d .bank)
 
   gate-heard : (cs : List Call) → gateIn (leftBy (made k p) cs) ≡ runGate (freshGate (settings k)) (gateHops (made k p) cs)
   gate-heard cs = gate-run cs (made k p) (sound-made k p d) ∙ ap (λ (x : Gate). runGate x (gateHops (made k p) cs)) (gate-made k p d)
@@ -96,10 +96,10 @@ module _ (k : Making) (p q : Stores) (mp : Made k p) (mq : Made k q) (xs ys : Li
 
     -- the bank
     bank-s : bankIn (leftBy s fs) ≡ runBank (bankIn s) (bankHops s fs)
-    bank-s = bank-run fs s (twins .one)
+    bank-s = bank-run fs s (sound-bank s (twins .one))
 
     bank-t : bankIn (leftBy t gs) ≡ runBank (bankIn t) (bankHops s fs)
-    bank-t = bank-run gs t (twins .other) ∙ ap (runBank (bankIn t)) (sym (run .same-bank))
+    bank-t = bank-run gs t (sound-bank t (twins .other)) ∙ ap (runBank (bankIn t)) (sym (run .same-bank))
 
     settled : Enough (k .n) (bankUpdates (made k p) xs) s fs → (i : ℕ) × (250 ≤ i) × Alike i (bankIn (leftBy s fs)) (bankIn (leftBy t gs))
     settled h =

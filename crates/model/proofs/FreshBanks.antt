@@ -48,7 +48,7 @@ length-smooth : (b : FloorBank) (h : Hop) → length (smoothAfter b h) ≡ b .n
 unfolding smoothAfter
 length-smooth b h = length-tab (b .n) _
 
-channel-slow : (b : FloorBank) (h : Hop) (k : ℕ) → k < b .n → channel (slowStep b h) k ≡ channelAfter (b .chans) (seedsAfter b (h .db)) (h .db) k
+pub channel-slow : (b : FloorBank) (h : Hop) (k : ℕ) → k < b .n → channel (slowStep b h) k ≡ channelAfter (b .chans) (seedsAfter b (h .db)) (h .db) k
 unfolding slowStep chansAfter
 channel-slow b h k l = getD-tab (b .n) (channelAfter (b .chans) (seedsAfter b (h .db)) (h .db)) k freshChannel l
 

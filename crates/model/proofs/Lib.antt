@@ -24,3 +24,7 @@ pub mod Made
 pub mod Demand3
 pub mod Sets
 pub mod Segments
+pub mod BinOrder
+pub mod LouderRings
+pub mod Louder
+pub mod LouderCases

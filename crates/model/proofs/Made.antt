@@ -2,6 +2,7 @@
 use mathlib.Core.Path.{_≡_, sym, ap, _∙_, subst}
 use mathlib.Core.Bool.{true, not, _&&_, _||_}
 use mathlib.Core.Logic.{_⊎_, inl, inr}
+use mathlib.Core.List.{List}
 use Prim.Native.Nat.{ℕ, _≤_}
 use native.Mathlib.Omega.{arith}
 use lib.ListN.{length}
@@ -9,7 +10,7 @@ use lib.IntN.{ℤ, pos, negsuc}
 use borrow.Author.Tests.{not-false, leb-true, eqb-true}
 use Rattle.laws.specs.Tests.{within}
 use Rattle.laws.proofs.Tests.{by-test, passed, within-of, and-l, and-r, clash}
-use Rattle.model.specs.Bank.{freshBank}
+use Rattle.model.specs.Bank.{FloorBank, freshBank}
 use Rattle.model.specs.Stores.{bankU, bankF}
 use Rattle.model.specs.Gate.{Settings, freshGate}
 use Rattle.model.specs.GateStores.{gateU, gateF}
@@ -21,9 +22,10 @@ use Rattle.model.specs.GoodGate.{GoodGate}
 use Rattle.model.proofs.GoodGates.{gate-back, gate-passes}
 use Rattle.model.proofs.FreshGates.{good-fresh-gate}
 use Rattle.model.proofs.Reach.{made-fresh}
-use Rattle.model.specs.Demand3.{Stores, bankIn, Making, newBank, newGate, made, Made}
+use Rattle.model.proofs.SettledFloors.{runBank}
+use Rattle.model.specs.Demand3.{Call, Stores, leftBy, bankHops, bankIn, Making, newBank, newGate, made, Made}
 use Rattle.model.specs.Sets.{gateIn, Sound}
-use Rattle.model.proofs.Calls.{gate-answer}
+use Rattle.model.proofs.Calls.{SoundBank, bank-run, gate-answer}
 
 -- ---- the gate's settings
 
@@ -64,6 +66,30 @@ taken k uLen fLen e =
       lengths = not-false (goodLengths (k .lengths)) (q .0);
     }
 
+-- ---- a fresh bank, whatever became of the gate
+
+module _ (k : Making) (s : Stores) (e : newBank k s .0 ≡ 0) where
+  pub good-bank : Good (freshBank (k .n))
+  good-bank = let m = made-fresh (s .bu) (s .bf) (k .n) (unfold newBank in e) in good-fresh (k .n) (m .0) (m .1)
+
+  bank-stores : (newBank k s .1 ≡ bankU (freshBank (k .n))) × (newBank k s .2 ≡ bankF (freshBank (k .n)))
+  unfolding newBank
+  bank-stores = let m = made-fresh (s .bu) (s .bf) (k .n) e in (ap (λ r. r .u) (m .2), ap (λ r. r .f) (m .2))
+
+  pub bank-made : bankIn (made k s) ≡ freshBank (k .n)
+  bank-made = rw (bank-stores .0, bank-stores .1) (bank-back (freshBank (k .n)) good-bank)
+
+  pub sound-bank-made : SoundBank (made k s)
+  sound-bank-made =
+      record {
+        bank-passes = rw (bank-stores .0, bank-stores .1) (passes (freshBank (k .n)) good-bank);
+        bank-good = subst Good (sym bank-made) good-bank;
+      }
+
+  -- after a list of calls
+  pub bank-hears : (cs : List Call) → bankIn (leftBy (made k s) cs) ≡ runBank (freshBank (k .n)) (bankHops (made k s) cs)
+  bank-hears cs = bank-run cs (made k s) sound-bank-made ∙ ap (λ (b : FloorBank). runBank b (bankHops (made k s) cs)) bank-made
+
 -- ---- a fresh set
 
 module _ (k : Making) (s : Stores) (d : Made k s) where
@@ -78,15 +104,8 @@ module _ (k : Making) (s : Stores) (d : Made k s) where
   pub lengths-good : goodLengths (k .lengths) ≡ true
   lengths-good = fits .lengths
 
-  good-bank : Good (freshBank (k .n))
-  good-bank = let m = made-fresh (s .bu) (s .bf) (k .n) (unfold newBank in d .bank) in good-fresh (k .n) (m .0) (m .1)
-
   good-gate : GoodGate (freshGate (settings k))
   good-gate = let t = fits in (unfold settingsOf in good-fresh-gate (settings k) (t .low) (t .high) (t .on) (t .off) (t .early) (t .lengths))
-
-  bank-stores : (newBank k s .1 ≡ bankU (freshBank (k .n))) × (newBank k s .2 ≡ bankF (freshBank (k .n)))
-  unfolding newBank
-  bank-stores = let m = made-fresh (s .bu) (s .bf) (k .n) (d .bank) in (ap (λ r. r .u) (m .2), ap (λ r. r .f) (m .2))
 
   gate-stores : (newGate k s .1 ≡ gateU (freshGate (settings k))) × (newGate k s .2 ≡ gateF (freshGate (settings k)))
   unfolding newGate gateNew
@@ -95,17 +114,15 @@ module _ (k : Making) (s : Stores) (d : Made k s) where
     ap (λ (r : ℕ). gateLeaves r (freshGate (settings k)) (s .gu) (s .gf) .2) refusal,
   )
 
-  pub bank-made : bankIn (made k s) ≡ freshBank (k .n)
-  bank-made = rw (bank-stores .0, bank-stores .1) (bank-back (freshBank (k .n)) good-bank)
-
   pub gate-made : gateIn (made k s) ≡ freshGate (settings k)
   gate-made = rw (gate-stores .0, gate-stores .1) (gate-back (freshGate (settings k)) good-gate)
 
   pub sound-made : Sound (made k s)
   sound-made =
+      let b = sound-bank-made k s (d .bank) in
       record {
-        bank-passes = rw (bank-stores .0, bank-stores .1) (passes (freshBank (k .n)) good-bank);
-        bank-good = subst Good (sym bank-made) good-bank;
+        bank-passes = b .bank-passes;
+        bank-good = b .bank-good;
         gate-passes = rw (gate-stores .0, gate-stores .1) (gate-passes (freshGate (settings k)) good-gate);
         gate-good = subst GoodGate (sym gate-made) good-gate;
       }

@@ -9,6 +9,7 @@ use lib.ListN.{length, getD}
 use borrow.Author.Tests.{leb-true, leb-false, ltb-true, ltb-false, lt-ltb, le-ltb, eqb-true, eqb-false, eq-eqb, ne-eqb}
 use Rattle.laws.specs.Lists.{one, occ, count}
 use Rattle.laws.proofs.Tests.{by-test}
+use Rattle.laws.proofs.Lower.{Lower, lower-tail}
 use Rattle.model.specs.Ring.{insert, sorted, without, smallest}
 
 -- how many of l are below b
@@ -129,6 +130,21 @@ under-smallest k l p h =
 
 smallest-rises : (j k : ℕ) (l : List ℕ) → 0 < j → j ≤ k → k ≤ length l → smallest j l ≤ smallest k l
 smallest-rises j k l p h n = smallest-least (smallest j l) k l (omega arith) n (omega (arith, under-smallest j l p (omega arith) .0))
+
+-- of a higher list no more are below b ..
+fewer-under : (b : ℕ) (l m : List ℕ) → Lower l m → under b m ≤ under b l
+fewer-under b [] [] o = omega arith
+fewer-under b [] (y ∷ m) o = absurd (omega (arith, o .long))
+fewer-under b (x ∷ l) [] o = absurd (omega (arith, o .long))
+fewer-under b (x ∷ l) (y ∷ m) o =
+    by-test (ltb y b)
+    (λ t. simp (t, lt-ltb x b (omega (arith, ltb-true y b t, o .at 0 (omega arith)))) (omega (arith, fewer-under b l m (lower-tail o))))
+    (λ t. simp t (omega (arith, fewer-under b l m (lower-tail o))))
+
+-- .. so its k-th smallest is no lower
+pub lower-smallest : (k : ℕ) (l m : List ℕ) → Lower l m → 0 < k → k ≤ length l → smallest k l ≤ smallest k m
+lower-smallest k l m o p h =
+    smallest-least (smallest k l) k m p (omega (arith, o .long)) (omega (arith, under-smallest k l p h .0, fewer-under (smallest k l) l m o))
 
 -- ---- a bin at a time
 

@@ -112,7 +112,7 @@ two-fresh : Two (made two lent)
 two-fresh =
     record {
       sound = sound-made two lent two-made;
-      n = ap (λ (b : FloorBank). b .n) (bank-made two lent two-made) ∙ (unfold freshBank two in refl);
+      n = ap (λ (b : FloorBank). b .n) (bank-made two lent (two-made .bank)) ∙ (unfold freshBank two in refl);
       gate-n = ap (λ (g : Gate). g .n) (gate-made two lent two-made) ∙ (unfold freshGate settingsOf two in refl);
     }
 

@@ -22,3 +22,4 @@ pub mod Demand3
 pub mod Sets
 pub mod Exports
 pub mod Segments
+pub mod Louder
