@@ -1,20 +1,19 @@
 -- The reader's answer, case by case: from the tests that led there to the answer, and back. Assumes nothing.
-use mathlib.Core.Path.{_≡_, refl, sym, ap, ap₂, _∙_}
-use mathlib.Core.Bool.{Bool, true, false, cond, not, _&&_}
+use mathlib.Core.Path.{_≡_, refl, sym, ap, _∙_}
+use mathlib.Core.Bool.{false}
 use mathlib.Core.List.{List}
 use Prim.Native.Nat.{ℕ, _+_, _-_, _*_, _<_, _≤_}
 use native.Mathlib.Omega.{arith}
-use lib.Dec.{eqb, leb, ltb, lit<}
-use lib.ListN.{length, getD}
-use borrow.Author.Tests.{eq-eqb, ne-eqb, lt-leb, le-leb, le-ltb, ltb-false, not-false}
+use lib.Dec.{lit<}
+use lib.ListN.{length}
+use borrow.Author.Tests.{eq-eqb, ne-eqb, le-ltb, ltb-false, not-false}
 use Rattle.laws.specs.Lists.{tab}
 use Rattle.laws.specs.Tests.{anyBelow}
 use Rattle.laws.specs.Bits.{width}
 use Rattle.laws.proofs.Tests.{passed, past, inside, agrees, same-of, within-of, goes-on, neither}
 use Rattle.low_first.specs.LowFirst.{lowTwo}
-use Rattle.log_model.specs.declared.LogRead.{LogRead}
 use Rattle.log_model.specs.declared.LogRead.the-variants.{Next, End, Refused}
-use Rattle.log_model.specs.Read.{isSet, pairAt, unchanged, headerRefusal, channels, startRefusal, hopRefusal, dbAfter, powerAfter, readIn, readHop}
+use Rattle.log_model.specs.Read.{isSet, pairAt, unchanged, headerRefusal, startRefusal, hopRefusal, dbAfter, powerAfter, readIn, readHop}
 
 -- what is known once the checks before a hop have passed
 pub record Started (log : List ℕ) (at n dbs powers : ℕ) : Type 0 where

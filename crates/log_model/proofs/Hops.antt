@@ -1,32 +1,29 @@
 -- A hop that stands in a log: what the reader finds there. Assumes nothing.
 use mathlib.Core.Path.{_≡_, refl, sym, ap, ap₂, _∙_}
 use mathlib.Core.Bool.{Bool, true, false, cond, not, _&&_, _||_}
-use mathlib.Core.List.{List, [], _∷_, _++_, append-assoc}
-use Prim.Native.Nat.{ℕ, zero, suc, _+_, _-_, _*_, _/_, _%_, _^_, _<_, _≤_}
-use native.Mathlib.Nat.{div-add-mod, mul-comm}
-use native.Mathlib.Numerals.{add-one}
+use mathlib.Core.List.{List, [], _++_, append-assoc}
+use Prim.Native.Nat.{ℕ, suc, _+_, _-_, _*_, _^_, _<_, _≤_}
 use native.Mathlib.Omega.{arith}
 use lib.Dec.{eqb, ltb}
-use lib.ListN.{length, getD, drop, length-append, List·getD-append}
-use lib.Seq.{getD-append-add, ext-getD}
-use borrow.Author.Tests.{lt-ltb, le-ltb, eqb-true, eqb-false, eq-eqb, ne-eqb, not-true, not-false}
+use lib.ListN.{length, getD, length-append, List·getD-append}
+use lib.Seq.{getD-append-add}
+use borrow.Author.Tests.{lt-ltb, le-ltb}
 use Rattle.laws.specs.Lists.{part, tab, joined, one}
 use Rattle.laws.specs.Tests.{tally, differ}
-use Rattle.laws.specs.Bits.{width, bitOf}
+use Rattle.laws.specs.Bits.{width}
 use Rattle.laws.proofs.Lists.{getD-part}
-use Rattle.laws.proofs.Runs.{run-part, run-within, part-in-first}
-use Rattle.laws.proofs.Tabs.{getD-tab, length-tab, tab-ext}
+use Rattle.laws.proofs.Runs.{run-part, part-in-first}
+use Rattle.laws.proofs.Tabs.{tab-ext}
 use Rattle.laws.proofs.Tests.{by-test, and-false-l, or-l, or-r, same-of, none-any}
 use Rattle.laws.proofs.Tallies.{tally-le, tally-room, tally-ext}
 use Rattle.laws.proofs.Bits.{bits-of, bits-front, bits-behind}
 use Rattle.low_first.specs.LowFirst.{lowBytes, lowFour, lowEight}
 use Rattle.low_first.proofs.Bytes.{length-low, low-at, four-there, eight-there}
-use Rattle.log_model.specs.declared.LogRead.{LogRead}
 use Rattle.log_model.specs.declared.LogRead.the-variants.{Next}
 use Rattle.log_model.specs.Format.{mapOf, pairOf, pairsOf, hopOf}
-use Rattle.log_model.specs.Read.{isSet, pairAt, unchanged, hopRefusal, dbAfter, powerAfter, readIn}
+use Rattle.log_model.specs.Read.{isSet, pairAt, unchanged, dbAfter, powerAfter, readIn}
 use Rattle.log_model.proofs.Answers.{passes, in-next}
-use Rattle.log_model.proofs.Lengths.{length-map, length-pair, length-pairs, length-hop, length-one}
+use Rattle.log_model.proofs.Lengths.{length-map, length-pairs, length-hop, length-one}
 use Rattle.log_model.proofs.Pairs.{unchanged-set, unchanged-clear, db-set, db-clear, power-set, power-clear}
 
 -- the hop of n channels with these set bits and pairs stands at `at`, behind `pre`

@@ -1,8 +1,7 @@
 -- What an answer of the reader tells. Assumes nothing.
-use mathlib.Core.Path.{_≡_, refl, sym, ap, ap₂, subst, _∙_}
-use mathlib.Core.Bool.{Bool, true, false}
+use mathlib.Core.Path.{_≡_, refl, sym, ap, _∙_}
 use mathlib.Core.List.{List}
-use Prim.Native.Nat.{ℕ, _+_, _*_, _<_, _≤_}
+use Prim.Native.Nat.{ℕ}
 use native.Mathlib.Omega.{arith}
 use lib.Dec.{eqb}
 use lib.ListN.{length}
@@ -15,7 +14,7 @@ use Rattle.log_model.specs.declared.LogRead.{LogRead}
 use Rattle.log_model.specs.declared.LogRead.the-variants.{Next, End, Refused}
 use Rattle.log_model.specs.Read.{pairAt, startRefusal, hopRefusal, dbAfter, powerAfter, readIn, readHop}
 use Rattle.log_model.specs.Whole.{Reading, Accepted}
-use Rattle.log_model.proofs.Answers.{Started, started, starts, Whole, whole, read-refused, read-end, read-in, in-refused, in-next}
+use Rattle.log_model.proofs.Answers.{started, starts, whole, read-refused, read-end, read-in, in-refused, in-next}
 
 -- which answer it is, and its position
 abbrev pub kind : LogRead → ℕ

@@ -1,9 +1,9 @@
 -- How long the parts of a log are. Assumes nothing.
 use mathlib.Core.Path.{_≡_, refl, sym, ap, ap₂, _∙_}
 use mathlib.Core.Bool.{Bool, true, false, cond}
-use mathlib.Core.List.{List, [], _∷_, _++_}
+use mathlib.Core.List.{List, [], _++_}
 use Prim.Native.Nat.{ℕ, zero, suc, _+_, _-_, _*_, _/_, _%_, _<_, _≤_}
-use native.Mathlib.Nat.{mul-suc, mul-zero, mul-comm, div-add-mod, mul-le-mul-right, mul-div-le}
+use native.Mathlib.Nat.{mul-suc, mul-zero, div-add-mod, mul-le-mul-right, mul-div-le}
 use native.Mathlib.Numerals.{add-one}
 use native.Mathlib.Omega.{arith}
 use lib.ListN.{length, getD, length-append}
@@ -13,7 +13,7 @@ use Rattle.laws.specs.Bits.{width}
 use Rattle.laws.proofs.Tabs.{joined-next}
 use Rattle.laws.proofs.Runs.{joined-more, joined-room}
 use Rattle.laws.proofs.Bits.{long}
-use Rattle.laws.proofs.Tallies.{tally-more, tally-add}
+use Rattle.laws.proofs.Tallies.{tally-add}
 use Rattle.low_first.specs.LowFirst.{lowBytes}
 use Rattle.low_first.proofs.Bytes.{length-low}
 use Rattle.laws.proofs.Lists.{row}

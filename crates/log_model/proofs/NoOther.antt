@@ -1,33 +1,31 @@
 -- A log that reads from its start to its end without a refusal is byte for byte what the writer writes of those hops. Assumes nothing.
 use mathlib.Core.Path.{_≡_, refl, sym, ap, ap₂, subst, _∙_}
 use mathlib.Core.Bool.{Bool, true, false, cond, not, _&&_, _||_}
-use mathlib.Core.List.{List, [], _∷_, _++_, append-assoc, append-nil}
-use mathlib.Core.Logic.{⊎-elim}
-use Prim.Native.Nat.{ℕ, zero, suc, _+_, _-_, _*_, _/_, _%_, _^_, _<_, _≤_}
-use native.Mathlib.Nat.{add-zero, zero-add, mul-zero, mul-suc, mul-div-right}
+use mathlib.Core.List.{List, [], _∷_, _++_}
+use Prim.Native.Nat.{ℕ, zero, suc, _+_, _-_, _*_, _/_, _<_, _≤_}
+use native.Mathlib.Nat.{mul-zero, mul-suc, mul-div-right}
 use native.Mathlib.Numerals.{add-one}
 use native.Mathlib.Omega.{arith}
 use lib.Dec.{eqb, ltb}
-use lib.ListN.{length, getD, take, drop, length-append, take-append-drop, drop-of-length-le, List·getD-append, List·getD-eq-default}
-use lib.Seq.{drop-drop, drop-length, getD-append-add, ext-getD}
-use borrow.Author.Tests.{lt-ltb, le-ltb, ltb-true, ltb-false, eqb-true, eq-eqb}
+use lib.ListN.{length, getD, drop, length-append, take-append-drop, List·getD-append, List·getD-eq-default}
+use lib.Seq.{drop-drop, drop-length, getD-append-add}
+use borrow.Author.Tests.{ltb-true, ltb-false}
 use Rattle.laws.specs.Lists.{part, tab, tabFrom, joined, one}
 use Rattle.laws.specs.Tests.{tally, differ}
-use Rattle.laws.specs.Bits.{width, bitOf, bytesOf}
+use Rattle.laws.specs.Bits.{width, bitOf}
 use Rattle.laws.proofs.Lists.{length-part, getD-part, part-add}
 use Rattle.laws.proofs.Tabs.{length-tab, getD-tab, tab-ext}
 use Rattle.laws.proofs.Tests.{by-test, and-false-l, agrees, any-none}
 use Rattle.laws.proofs.Bits.{bytes-same, bytes-bits, bits-part}
 use Rattle.low_first.specs.LowFirst.{lowTwo, lowFour, lowEight}
 use Rattle.low_first.proofs.Bytes.{two-back, four-back, eight-back, part-low}
-use Rattle.log_model.specs.Format.{mapOf, pairOf, pairsOf, hopOf, before, changed, hopAt, logOf}
-use Rattle.log_model.specs.Read.{isSet, pairAt, unchanged, hopRefusal, dbAfter, powerAfter, readHop}
-use Rattle.log_model.specs.declared.LogRead.{LogRead}
+use Rattle.log_model.specs.Format.{mapOf, pairOf, pairsOf, hopOf, before, hopAt, logOf}
+use Rattle.log_model.specs.Read.{isSet, pairAt, unchanged, dbAfter, powerAfter, readHop}
 use Rattle.log_model.specs.declared.LogRead.the-variants.{Next, End, Refused}
-use Rattle.log_model.specs.Whole.{Reading, onward, readOn, readLog, Below, NoOther}
+use Rattle.log_model.specs.Whole.{Reading, onward, readOn, Below, NoOther}
 use Rattle.log_model.proofs.Answers.{Started, started, Whole, whole}
-use Rattle.log_model.proofs.Inverse.{Read, read-tells, end-tells, kind, other}
-use Rattle.log_model.proofs.Lengths.{length-map, length-hop, pairs-more}
+use Rattle.log_model.proofs.Inverse.{Read, read-tells, end-tells, other}
+use Rattle.log_model.proofs.Lengths.{pairs-more}
 use Rattle.log_model.proofs.Pairs.{db-set, db-clear, power-set, power-clear, pair-room, unchanged-set}
 
 -- bytes are small past the end too

@@ -1,13 +1,12 @@
 -- Reading back a written log yields the same hops, bit for bit, and then "end". Assumes nothing.
-use mathlib.Core.Path.{_≡_, refl, sym, ap, ap₂, _∙_}
-use mathlib.Core.Bool.{Bool, true, false, cond, _||_}
-use mathlib.Core.List.{List, [], _∷_, _++_, append-assoc, append-nil}
-use Prim.Native.Nat.{ℕ, zero, suc, _+_, _-_, _*_, _/_, _%_, _^_, _<_, _≤_}
+use mathlib.Core.Path.{_≡_, sym, ap, ap₂, _∙_}
+use mathlib.Core.Bool.{Bool, cond, _||_}
+use mathlib.Core.List.{List, _++_, append-assoc}
+use Prim.Native.Nat.{ℕ, zero, suc, _+_, _-_, _*_, _/_, _<_, _≤_}
 use native.Mathlib.Nat.{add-zero, zero-add, mul-zero, mul-suc, mul-le-mul-right}
 use native.Mathlib.Numerals.{add-one}
 use native.Mathlib.Omega.{arith}
-use lib.Dec.{ltb}
-use lib.ListN.{length, getD, take, drop, length-append, take-append-drop, drop-of-length-le, List·getD-append}
+use lib.ListN.{length, getD, drop, length-append, take-append-drop, drop-of-length-le, List·getD-append}
 use lib.Seq.{drop-drop}
 use borrow.Author.Tests.{lt-ltb, le-ltb}
 use Rattle.laws.specs.Lists.{part, tab, tabFrom, joined}
@@ -18,11 +17,11 @@ use Rattle.laws.proofs.Runs.{joined-split, joined-room, joined-upto}
 use Rattle.laws.specs.Bits.{width}
 use Rattle.low_first.specs.LowFirst.{lowBytes, lowTwo}
 use Rattle.low_first.proofs.Bytes.{length-low, low-at, two-there}
-use Rattle.log_model.specs.declared.LogRead.the-variants.{Next, End, Refused}
-use Rattle.log_model.specs.Format.{hopOf, before, changed, hopAt, logOf}
+use Rattle.log_model.specs.declared.LogRead.the-variants.{Next, End}
+use Rattle.log_model.specs.Format.{before, changed, hopAt, logOf}
 use Rattle.log_model.specs.Read.{startRefusal, readIn, readHop}
-use Rattle.log_model.specs.Whole.{Reading, onward, readOn, readLog, Below, Hops, ReadsBack}
-use Rattle.log_model.proofs.Answers.{Started, starts, read-end, read-in}
+use Rattle.log_model.specs.Whole.{Reading, onward, readOn, readLog, Hops, ReadsBack}
+use Rattle.log_model.proofs.Answers.{starts, read-end, read-in}
 use Rattle.log_model.proofs.Hops.{read-there}
 use Rattle.log_model.proofs.Lengths.{length-at, length-hops, log-parts, hops-whole, hop-within}
 

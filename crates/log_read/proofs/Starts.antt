@@ -1,15 +1,14 @@
 -- The refusals before a hop and within it, each from the tests that led to it. Assumes nothing.
-use mathlib.Core.Path.{_≡_, refl, sym, ap, _∙_}
+use mathlib.Core.Path.{_≡_, sym, ap, _∙_}
 use mathlib.Core.Bool.{true, false, not}
 use mathlib.Core.List.{List}
 use Prim.Native.Nat.{ℕ, _+_, _-_, _*_, _<_, _≤_}
-use native.Mathlib.Omega.{arith}
 use lib.ListN.{length}
 use borrow.Author.Tests.{lt-ltb, le-ltb, eq-eqb, ne-eqb}
 use Rattle.laws.specs.Tests.{anyBelow, within}
 use Rattle.low_first.specs.LowFirst.{lowTwo}
 use Rattle.laws.specs.Bits.{width}
-use Rattle.laws.proofs.Tests.{due, past, inside, differs, agrees, stands, goes-on}
+use Rattle.laws.proofs.Tests.{due, past, differs, agrees, stands, goes-on}
 use Rattle.log_model.specs.declared.LogChannels.the-variants.{Channels, Refused}
 use Rattle.log_model.specs.Read.{isSet, pairAt, unchanged, headerRefusal, channels, startRefusal, hopRefusal}
 

@@ -7,7 +7,7 @@ ghost use lib.ListN.{length};
 ghost use Rattle.laws.specs.Lists.{tab};
 ghost use Rattle.laws.specs.Bits.{width};
 ghost use Rattle.laws.specs.Tests.{anyBelow, tally};
-ghost use Rattle.low_first.specs.LowFirst.{lowTwo, lowFour, lowEight};
+ghost use Rattle.low_first.specs.LowFirst.{lowFour, lowEight};
 ghost use Rattle.log_model.specs.Read.{isSet, pairAt, unchanged, headerRefusal, channels, startRefusal, hopRefusal, dbAfter, powerAfter, readHop};
 use log_model::LogChannels;
 use log_model::LogRead;

@@ -1,15 +1,13 @@
 -- The writer's refusals and its answer, each from the tests that led to it. Assumes nothing.
-use mathlib.Core.Path.{_≡_, refl, sym, ap, ap₂, _∙_}
+use mathlib.Core.Path.{_≡_, refl, ap, ap₂, _∙_}
 use mathlib.Core.Bool.{true, not}
-use mathlib.Core.List.{List, _++_}
+use mathlib.Core.List.{List}
 use Prim.Native.Nat.{ℕ, _%_, _<_, _≤_}
-use native.Mathlib.Omega.{arith}
 use lib.Dec.{lit<}
-use lib.ListN.{length, drop}
+use lib.ListN.{length}
 use borrow.Author.Tests.{lt-ltb, le-ltb, eq-eqb, ne-eqb, ltb-false, not-false}
 use Rattle.laws.specs.Tests.{within}
 use Rattle.laws.proofs.Tests.{passed, same-of, within-of, due, past, inside, differs, agrees}
-use Rattle.log_model.specs.declared.LogLength.{LogLength}
 use Rattle.log_model.specs.declared.LogLength.the-variants.{Length, Refused}
 use Rattle.log_model.specs.Format.{logOf, writeRefusal, written}
 use Rattle.log_hops.specs.Put.{put}

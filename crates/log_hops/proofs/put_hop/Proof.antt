@@ -1,10 +1,9 @@
-use mathlib.Core.Path.{_≡_, refl, ap, _∙_}
+use mathlib.Core.Path.{_≡_, ap, _∙_}
 use mathlib.Core.Bool.{Bool}
-use Prim.Native.Nat.{ℕ, _+_, _*_}
+use Prim.Native.Nat.{ℕ, _+_}
 use native.Mathlib.Omega.{arith}
-use lib.ListN.{length, getD}
+use lib.ListN.{getD}
 use Rattle.laws.specs.Bits.{width}
-use Rattle.laws.specs.Tests.{tally}
 use Rattle.log_model.specs.Format.{mapOf, pairsOf, changed}
 use Rattle.log_model.proofs.Lengths.{length-map, length-pairs}
 use Rattle.log_hops.proofs.Puts.{put-next}

@@ -1,5 +1,5 @@
 use mathlib.Core.Path.{refl, _∙_}
-use Prim.Native.Nat.{ℕ, _+_}
+use Prim.Native.Nat.{_+_}
 use native.Mathlib.Omega.{arith}
 use Rattle.low_first.specs.LowFirst.{lowBytes}
 use Rattle.low_first.proofs.Bytes.{length-low}

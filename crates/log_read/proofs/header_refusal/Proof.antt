@@ -1,7 +1,6 @@
 use mathlib.Core.Path.{_≡_, sym, ap, _∙_}
 use mathlib.Core.Bool.{true, not}
 use Prim.Native.Nat.{ℕ}
-use native.Mathlib.Omega.{arith}
 use Rattle.laws.specs.Tests.{within}
 use Rattle.laws.proofs.Tests.{below, above}
 use Rattle.log_model.specs.Read.{headerRefusal}

@@ -1,13 +1,12 @@
 use mathlib.Core.Path.{_≡_, refl, sym, ap, _∙_}
 use mathlib.Core.Bool.{Bool, true, false}
 use mathlib.Core.Logic.{⊎-elim}
-use mathlib.Core.List.{List}
-use Prim.Native.Nat.{ℕ, _≤_, _-_, _+_, _*_}
+use Prim.Native.Nat.{ℕ, _≤_, _-_, _+_}
 use native.Mathlib.Omega.{arith}
 use lib.ListN.{length}
 use Rattle.laws.specs.Tests.{anyBelow}
 use Rattle.laws.proofs.Tests.{any-more, any-at, any-done}
-use Rattle.log_model.specs.Read.{isSet, pairAt, unchanged}
+use Rattle.log_model.specs.Read.{pairAt, unchanged}
 use Rattle.log_model.proofs.Pairs.{pair-first, pair-more, pair-same, pair-room, unchanged-set, unchanged-clear}
 use borrow.Author.Needs.{needs}
 use Rattle.log_read.proofs.is_unchanged.Statement.{statement}

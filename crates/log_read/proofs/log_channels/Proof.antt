@@ -1,5 +1,4 @@
-use mathlib.Core.Path.{_≡_, sym, _∙_}
-use native.Mathlib.Omega.{arith}
+use mathlib.Core.Path.{sym, _∙_}
 use Rattle.log_read.proofs.Starts.{told, not-told}
 use borrow.Author.Needs.{needs}
 use Rattle.log_read.proofs.log_channels.Statement.{statement}

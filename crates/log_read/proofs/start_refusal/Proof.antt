@@ -1,5 +1,4 @@
 use mathlib.Core.Path.{_≡_, refl, sym, _∙_}
-use native.Mathlib.Omega.{arith}
 use Rattle.laws.proofs.Tests.{below, above}
 use Rattle.low_first.specs.LowFirst.{lowTwo}
 use Rattle.log_model.specs.Read.{headerRefusal}

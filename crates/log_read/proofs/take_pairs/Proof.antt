@@ -1,13 +1,11 @@
 use mathlib.Core.Path.{_≡_, refl, sym, ap, subst, _∙_}
-use mathlib.Core.Bool.{Bool, true, false}
 use mathlib.Core.Logic.{⊎-elim}
-use mathlib.Core.List.{List}
-use Prim.Native.Nat.{ℕ, _≤_, _-_, _+_, _*_}
+use Prim.Native.Nat.{ℕ, _-_, _+_}
 use native.Mathlib.Omega.{arith}
 use lib.ListN.{length}
 use Rattle.laws.specs.Lists.{tab}
 use Rattle.laws.proofs.Fills.{Filled, begins, turns, stays, done}
-use Rattle.log_model.specs.Read.{isSet, pairAt, dbAfter, powerAfter}
+use Rattle.log_model.specs.Read.{pairAt, dbAfter, powerAfter}
 use Rattle.log_model.proofs.Pairs.{pair-first, pair-more, pair-same, pair-room, db-set, db-clear, power-set, power-clear}
 use borrow.Author.Needs.{needs}
 use Rattle.log_read.proofs.take_pairs.Statement.{statement}
