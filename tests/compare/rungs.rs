@@ -22,9 +22,9 @@ impl Set {
     /// Whether sums of this size open the channel, its rise floor at s.
     fn opens(&mut self, t: &mut Tally, s: f64, sum: f64) -> bool {
         self.bank.1[3] = s;
-        self.gate.1[3..].fill(sum);
+        self.gate.1[3..5].fill(sum); // behind them stands the remembered pair, which follows s
         let (mut rise, mut drop) = ([9], [9]);
-        let answer = gate_hold((&self.bank.0, &self.bank.1), (&self.gate.0, &self.gate.1), (&mut rise, &mut drop));
+        let answer = gate_hold((&self.bank.0, &self.bank.1), (&self.gate.0, &mut self.gate.1), (&mut rise, &mut drop));
         t.answer(format_args!("hold, rise floor {s:?}"), answer, 0);
         rise == [1]
     }
