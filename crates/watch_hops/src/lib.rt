@@ -99,8 +99,8 @@ fn watch_all(
     let mut place = watch_recording::first_place();
     let mut turns = u64::MAX;
     while turns > 0 && place.is_on {
-        let step = read_hop(fd, s, n, bits, powers, db, power);
         let before = explanation_before(s, bank, bank_f);
+        let step = read_hop(fd, s, n, bits, powers, db, power);
         let heard = hear(step, bank, bank_f, gate, gate_f, db, power, rise, drop);
         place = follow(
             fd,
