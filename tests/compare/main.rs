@@ -5,15 +5,19 @@ mod bottom;
 mod calls;
 #[path = "build/channelizer.rs"]
 mod channelizer;
+mod explain;
 mod faults;
 #[allow(dead_code)]
 #[path = "build/floor.rs"]
 mod floor;
 mod history;
 mod layout;
+mod log_rows;
+mod logs;
 mod louder;
 mod numbers;
 mod pairs;
+mod plain_log;
 mod rules;
 mod rungs;
 mod runs;
@@ -32,8 +36,8 @@ use tally::Tally;
 
 const SIZES: [usize; 13] = [1, 2, 3, 4, 5, 6, 31, 32, 33, 64, 65, 511, 512];
 
-/// Job i: the making of banks and gates, the ladder and the dispatcher, two histories, two lists of which
-/// one is louder, the worst floor of late over some span, arbitrary stores of some size, or a run of some size and plan.
+/// Job i: the making of banks and gates, the ladder, the hop logs and the dispatcher, two histories, two lists of which one is louder,
+/// the worst floor of late over some span, arbitrary stores of some size, or a run of some size and plan.
 fn job(i: usize, seed: u64, alone: &mut Alone) -> Option<Tally> {
     let mut t = Tally::default();
     let mut rng = Rng(seed ^ (i as u64) << 32);
@@ -47,6 +51,7 @@ fn job(i: usize, seed: u64, alone: &mut Alone) -> Option<Tally> {
         bottom::every_edge(&mut t);
         rungs::each_rung(&mut t);
         rungs::any_s(&mut t, &mut rng);
+        logs::any_logs(&mut t, &mut rng);
         segments::all_ticks(&mut t);
         segments::fair_runs(&mut t, &mut rng);
         louder::no_more(&mut t);
@@ -62,6 +67,7 @@ fn job(i: usize, seed: u64, alone: &mut Alone) -> Option<Tally> {
         let n = SIZES[i - spans - 1];
         (0..6000 / (n + 10)).for_each(|_| faults::any_sound_store(&mut t, n, &mut rng));
         (0..6000 / (n + 10)).for_each(|_| pairs::any_pairs(&mut t, n, &mut rng));
+        (0..6000 / (n + 10)).for_each(|_| explain::any_sides(&mut t, n, &mut rng));
     } else {
         let run = i - spans - SIZES.len() - 1;
         let n = *SIZES.get(run / PLANS.len())?;
@@ -101,6 +107,9 @@ fn main() {
     });
     for (rule, times) in rules::SOUND.iter().chain(&rules::GATE_SOUND).zip(alone) {
         t.check(times > 0 || jobs < usize::MAX, format_args!("the rule '{}' was never broken alone", rule.name));
+    }
+    for (what, times) in explain::SEEN.iter().zip(t.seen) {
+        t.check(times > 0 || jobs < usize::MAX, format_args!("no explanation had '{what}'"));
     }
     let [floors, rises] = t.parted;
     t.check(floors > 0 && rises > 0 || jobs < usize::MAX, format_args!("histories made no difference before the end of the further list"));

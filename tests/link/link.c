@@ -2,6 +2,7 @@
 #include "wolfcloak.h"
 #include <stdio.h>
 #include <stdlib.h>
+#include <string.h>
 
 static int wrong;
 
@@ -41,6 +42,7 @@ static void bench_h(void)
     uint16_t *bank = malloc(len * sizeof *bank);
     double *bank_f = malloc(f_len * sizeof *bank_f), db[2] = {-100, -60}, value, effective, rise, raw;
     float power[2] = {1e-10f, 1e-6f};
+    uint8_t effective_origin = 9, rise_origin = 9;
 
     if (!bank || !bank_f)
         exit(1);
@@ -58,6 +60,18 @@ static void bench_h(void)
     expect("effective of floors", effective, -80 - 3.8);
     expect("rise of floors", rise, -79.75);
     expect("raw of floors", raw, -99.75);
+    expect("explain", wolfcloak_explain(bank, len, bank_f, f_len, 0, &effective_origin, &effective, &rise_origin, &rise), WOLFCLOAK_OK);
+    expect("origin of the first's effective floor", effective_origin, WOLFCLOAK_EFFECTIVE_SEED);
+    expect("effective floor explained", effective, -80 - 3.8);
+    expect("origin of the first's rise floor", rise_origin, WOLFCLOAK_RISE_BLOCK);
+    expect("rise floor explained", rise, -79.75);
+    expect("explain", wolfcloak_explain(bank, len, bank_f, f_len, 1, &effective_origin, &effective, &rise_origin, &rise), WOLFCLOAK_OK);
+    expect("origin of the second's effective floor", effective_origin, WOLFCLOAK_EFFECTIVE_BLOCK_PLUS_3);
+    expect("origin of the second's rise floor", rise_origin, WOLFCLOAK_RISE_EFFECTIVE_FLOOR);
+    expect("rise floor explained", rise, -76.75);
+    expect("a channel too many", wolfcloak_explain(bank, len, bank_f, f_len, 2, &effective_origin, &effective, &rise_origin, &rise),
+           WOLFCLOAK_REFUSED_CHANNEL);
+    expect("origin after a refusal", rise_origin, WOLFCLOAK_RISE_EFFECTIVE_FLOOR);
     expect("spectral_reference", wolfcloak_spectral_reference(bank, len, bank_f, f_len, 1, &value), WOLFCLOAK_OK);
     expect("spectral reference of the second", value, (double)power[0] + 1e-20);
     expect("ring", wolfcloak_ring(bank, len, bank_f, f_len, 1, &start, &count), WOLFCLOAK_OK);
@@ -166,6 +180,38 @@ static void ticks(void)
     expect("the last served as it was", last, 1);
 }
 
+/* A hop of two channels, of which one changes, and one in which nothing does: written, and read back. */
+static void hop_log(void)
+{
+    const uint64_t db[4] = {0, 0xfff8000000000001, 0, 0xfff8000000000001};
+    const uint32_t power[4] = {0, 7, 0, 7};
+    static const uint8_t due[16] = {2, 0, 2, 1, 0, 0, 0, 0, 0, 0xf8, 0xff, 7, 0, 0, 0, 0};
+    uint8_t log[17] = {0};
+    uint64_t db_bits[2] = {0, 0};
+    uint32_t power_bits[2] = {0, 0};
+    size_t len = 0, n = 0, position = 2;
+
+    log[16] = 9;
+    expect("a log that is too long", wolfcloak_log_write(2, db, 4, power, 4, log, 15, &len), WOLFCLOAK_REFUSED_STORE_SIZE);
+    expect("log_write", wolfcloak_log_write(2, db, 4, power, 4, log, 17, &len), WOLFCLOAK_OK);
+    expect("the log's length", len, 16);
+    expect("the log's bytes", memcmp(log, due, 16), 0);
+    expect("the byte after it", log[16], 9);
+    expect("log_channels", wolfcloak_log_channels(log, len, &n), WOLFCLOAK_OK);
+    expect("the log's channels", n, 2);
+    for (int hop = 0; hop < 2; hop++) {
+        expect("log_read", wolfcloak_log_read(log, len, &position, db_bits, 2, power_bits, 2), WOLFCLOAK_OK);
+        expect("the hop's dB bits", memcmp(db_bits, db + 2 * hop, sizeof db_bits), 0);
+        expect("the hop's power bits", memcmp(power_bits, power + 2 * hop, sizeof power_bits), 0);
+        expect("the position", position, hop == 0 ? 15 : 16);
+    }
+    expect("log_read", wolfcloak_log_read(log, len, &position, db_bits, 2, power_bits, 2), WOLFCLOAK_END);
+    position = 2;
+    expect("a pair that did not change", wolfcloak_log_read(log, len, &position, db_bits, 2, power_bits, 2), WOLFCLOAK_REFUSED_DAMAGED);
+    expect("a log that is cut", wolfcloak_log_read(log, 14, &position, db_bits, 2, power_bits, 2), WOLFCLOAK_REFUSED_CUT);
+    expect("the position of a refusal", position, 2);
+}
+
 /* The last 2 slow hops of one channel: none yet, the first floor, and the highest of two as the noise falls away. */
 static void worst_of_late(void)
 {
@@ -206,6 +252,7 @@ int main(void)
     hear_noise();
     window_rise();
     early_rise();
+    hop_log();
     worst_of_late();
     ticks();
     puts(wrong ? "tests/link: failed" : "tests/link: ok");

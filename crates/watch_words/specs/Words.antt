@@ -10,8 +10,9 @@ use Rattle.watch_levels.specs.declared.LevelWord.{LevelWord}
 use Rattle.watch_levels.specs.declared.LevelWord.the-variants.{Is, Wrong}
 use Rattle.watch_levels.specs.Levels.{level, noLevel, levelOf}
 use Rattle.watch_lengths.specs.Lengths.{lengthsOf}
+use Rattle.watch_channel.specs.Channel.{channelOf}
 use Rattle.watch_words.specs.declared.Word.{Word}
-use Rattle.watch_words.specs.declared.Word.the-variants.{Help, Csv, Reference, On, Off, Early, Lengths, Unknown, File}
+use Rattle.watch_words.specs.declared.Word.the-variants.{Help, Csv, Reference, Log, On, Off, Early, Lengths, Explain, Unknown, File}
 use Rattle.watch_words.specs.declared.Settings.{Settings}
 
 -- the options by their names
@@ -21,10 +22,12 @@ options =
     ∷ (ascii "-h", Help)
     ∷ (ascii "--csv", Csv)
     ∷ (ascii "--reference", Reference)
+    ∷ (ascii "--log", Log)
     ∷ (ascii "--on", On)
     ∷ (ascii "--off", Off)
     ∷ (ascii "--early", Early)
     ∷ (ascii "--lengths", Lengths)
+    ∷ (ascii "--explain", Explain)
     ∷ []
 
 unfoldable pub named : List ℕ → List (List ℕ × Word) → Word
@@ -51,6 +54,9 @@ earlyValue = 3
 abbrev pub lengthsValue : ℕ
 lengthsValue = 4
 
+abbrev pub explainValue : ℕ
+explainValue = 5
+
 -- what is wrong with a word
 abbrev pub noFault : ℕ
 noFault = 0
@@ -70,6 +76,9 @@ noValue = 4
 abbrev pub secondFile : ℕ
 secondFile = 5
 
+abbrev pub badChannel : ℕ
+badChannel = 7
+
 -- on at 9 dB, off at 6 dB, in eighths; no early level; three lengths
 abbrev pub defaults : Settings
 defaults =
@@ -81,7 +90,9 @@ defaults =
       «is_csv» = false;
       «has_reference» = false;
       «is_help» = false;
+      «is_log» = false;
       file = 0;
+      explained = 0;
       due = any;
       fault = noFault;
       word = 0;
@@ -101,15 +112,17 @@ valued s a b e n =
       «is_csv» = s .«is_csv»;
       «has_reference» = s .«has_reference»;
       «is_help» = s .«is_help»;
+      «is_log» = s .«is_log»;
       file = s .file;
+      explained = s .explained;
       due = any;
       fault = s .fault;
       word = s .word;
     }
 
 -- settings that ask for other things
-abbrev pub asking : Settings → Bool → Bool → Bool → ℕ → Settings
-asking s csv reference help i =
+abbrev pub asking : Settings → Bool → Bool → Bool → Bool → ℕ → Settings
+asking s csv reference help log i =
     record {
       on = s .on;
       off = s .off;
@@ -118,7 +131,9 @@ asking s csv reference help i =
       «is_csv» = csv;
       «has_reference» = reference;
       «is_help» = help;
+      «is_log» = log;
       file = i;
+      explained = s .explained;
       due = s .due;
       fault = s .fault;
       word = s .word;
@@ -135,10 +150,31 @@ noted s d f i =
       «is_csv» = s .«is_csv»;
       «has_reference» = s .«has_reference»;
       «is_help» = s .«is_help»;
+      «is_log» = s .«is_log»;
       file = s .file;
+      explained = s .explained;
       due = d;
       fault = f;
       word = i;
+    }
+
+-- settings by which a channel's floors are explained: its number with 1 added
+abbrev pub explaining : Settings → ℕ → Settings
+explaining s v =
+    record {
+      on = s .on;
+      off = s .off;
+      early = s .early;
+      lengths = s .lengths;
+      «is_csv» = s .«is_csv»;
+      «has_reference» = s .«has_reference»;
+      «is_help» = s .«is_help»;
+      «is_log» = s .«is_log»;
+      file = s .file;
+      explained = v;
+      due = any;
+      fault = s .fault;
+      word = s .word;
     }
 
 -- word i has this fault
@@ -151,11 +187,15 @@ awaiting s d i = noted s d (s .fault) i
 
 -- what is to be printed
 abbrev pub printing : Settings → Bool → Bool → Bool → Settings
-printing s csv reference help = asking s csv reference help (s .file)
+printing s csv reference help = asking s csv reference help (s .«is_log») (s .file)
 
--- the recording is word i
+-- the file is word i
 abbrev pub filed : Settings → ℕ → Settings
-filed s i = asking s (s .«is_csv») (s .«has_reference») (s .«is_help») i
+filed s i = asking s (s .«is_csv») (s .«has_reference») (s .«is_help») (s .«is_log») i
+
+-- what is watched is a hop log
+abbrev pub logged : Settings → Settings
+logged s = asking s (s .«is_csv») (s .«has_reference») (s .«is_help») true (s .file)
 
 abbrev pub levelled : Settings → Level → Level → Level → Settings
 levelled s a b e = valued s a b e (s .lengths)
@@ -163,7 +203,7 @@ levelled s a b e = valued s a b e (s .lengths)
 abbrev pub counting : Settings → ℕ → Settings
 counting s n = valued s (s .on) (s .off) (s .early) n
 
--- a second recording is a fault
+-- a second file is a fault
 unfoldable pub withFile : Settings → ℕ → Settings
 withFile s i = cond (eqb (s .file) 0) (filed s i) (faulty s secondFile i)
 
@@ -172,10 +212,12 @@ unfoldable pub anyTaken : Settings → ℕ → Word → Settings
 anyTaken s i Help = printing s (s .«is_csv») (s .«has_reference») true
 anyTaken s i Csv = printing s true (s .«has_reference») (s .«is_help»)
 anyTaken s i Reference = printing s (s .«is_csv») true (s .«is_help»)
+anyTaken s i Log = logged s
 anyTaken s i On = awaiting s onValue i
 anyTaken s i Off = awaiting s offValue i
 anyTaken s i Early = awaiting s earlyValue i
 anyTaken s i Lengths = awaiting s lengthsValue i
+anyTaken s i Explain = awaiting s explainValue i
 anyTaken s i Unknown = faulty s unknown i
 anyTaken s i File = withFile s i
 
@@ -198,12 +240,17 @@ levelTaken s i w = cond (eqb (s .due) earlyValue && sameBytes w (ascii "none")) 
 unfoldable pub lengthsTaken : Settings → ℕ → List ℕ × ℕ → List ℕ × Settings
 lengthsTaken s i p = (p .0, cond (eqb (p .1) 0) (faulty s badLengths i) (counting s (p .1)))
 
+-- a channel's number, with 1 added; 0 is none
+unfoldable pub channelTaken : Settings → ℕ → ℕ → Settings
+channelTaken s i v = cond (eqb v 0) (faulty s badChannel i) (explaining s v)
+
 -- the lengths and the settings after word i. After a fault nothing changes any more
 unfoldable pub wordTaken : List ℕ × Settings → ℕ → List ℕ → List ℕ × Settings
 wordTaken (l, s) i w =
     cond (eqb (s .fault) noFault)
     (cond (eqb (s .due) any) (l, anyTaken s i (wordOf w))
-    (cond (eqb (s .due) lengthsValue) (lengthsTaken s i (lengthsOf w l)) (l, levelTaken s i w)))
+    (cond (eqb (s .due) lengthsValue) (lengthsTaken s i (lengthsOf w l))
+    (cond (eqb (s .due) explainValue) (l, channelTaken s i (channelOf w)) (l, levelTaken s i w))))
     (l, s)
 
 -- after the last word an option may still lack its value
