@@ -1,5 +1,6 @@
-// The C interface: each call of the bank, in gate_rows each of the gate, in segment_rows the dispatcher's, and in worst_rows those of the worst floor, in a form that C can pass. An enum, a struct or a returned part is taken apart by `answers`.
+// The C interface: each call of the bank, in gate_rows each of the gate, in log_rows each of the hop log, and in segment_rows and worst_rows what requests of document 02 add, in a form that C can pass. An enum, a struct or a returned part is taken apart by `answers` and `log_answers`.
 pub mod gate_rows;
+pub mod log_rows;
 pub mod segment_rows;
 pub mod worst_rows;
 
