@@ -1,11 +1,14 @@
-// A channel's number as a word of the command line. It is answered with 1 added, so that 0 is left for a word that is none.
+// Numbers as words of the command line: a channel and a span of slow hops. 0 is the answer to a word that is none.
 ghost use mathlib.Core.Path.{_≡_};
 ghost use mathlib.Core.List.{foldl};
 ghost use Prim.Native.Nat.{_<_};
-ghost use Rattle.watch_channel.specs.Channel.{step, channelOf};
+ghost use Rattle.watch_numbers.specs.Numbers.{step, channelOf, spanOf};
 
 // As many channels as a bank can have.
 const MOST: usize = 512;
+
+// The longest span, with 1 added.
+const LONGEST: usize = 601;
 
 fn wide(b: u8) -> usize
     ensures { λ r. ⌜ (r ≡ b) × (r < 256) ⌝ }
@@ -13,14 +16,15 @@ fn wide(b: u8) -> usize
     b as usize
 }
 
+// A number with 1 added, so that 0 is left for what is none.
 fn digit_step(v: usize, b: u8) -> usize
     ensures { λ r. ⌜ r ≡ step v b ⌝ }
 {
     if v < 1 {
         return 0;
     }
-    // No channel is so high, whatever follows.
-    if v > MOST {
+    // No number that is asked for is so high, whatever follows.
+    if v > LONGEST {
         return 0;
     }
     if b < b'0' {
@@ -42,6 +46,7 @@ fn number_of(word: &[u8]) -> usize
     v
 }
 
+// A channel's number, with 1 added.
 pub fn channel_of(word: &[u8]) -> usize
     ensures { λ r. ⌜ r ≡ channelOf (now (word .entry)) ⌝ }
 {
@@ -53,4 +58,18 @@ pub fn channel_of(word: &[u8]) -> usize
         return 0;
     }
     v
+}
+
+// A span, 1 to 600. A word with nothing in it has the number 0, and is none.
+pub fn span_of(word: &[u8]) -> usize
+    ensures { λ r. ⌜ r ≡ spanOf (now (word .entry)) ⌝ }
+{
+    let v = number_of(word);
+    if v < 2 {
+        return 0;
+    }
+    if v > LONGEST {
+        return 0;
+    }
+    v - 1
 }

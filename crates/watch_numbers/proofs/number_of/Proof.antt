@@ -1,4 +1,4 @@
--- `watch_channel::number_of` meets its contract. Assumes nothing.
+-- `watch_numbers::number_of` meets its contract. Assumes nothing.
 use mathlib.Core.Path.{_≡_}
 use mathlib.Core.List.{foldl}
 use Prim.Native.Nat.{_-_, _≤_}
@@ -6,9 +6,9 @@ use native.Mathlib.Omega.{arith}
 use lib.ListN.{length, take}
 use borrow.Author.Needs.{needs}
 use Rattle.laws.proofs.Folds.{fold-next, fold-done}
-use Rattle.watch_channel.specs.Channel.{step}
-use Rattle.watch_channel.proofs.number_of.Statement.{statement}
-use Rattle.watch_channel.proofs.number_of.Tie as tie
+use Rattle.watch_numbers.specs.Numbers.{step}
+use Rattle.watch_numbers.proofs.number_of.Statement.{statement}
+use Rattle.watch_numbers.proofs.number_of.Tie as tie
 
 abbrev Inv-loop : tie.InvT-loop
 Inv-loop word v₀ i₀ i-end v i = (i ≤ i-end) × (i-end ≡ length word) × (v ≡ foldl step 1 (take i word))

@@ -1,9 +1,9 @@
--- `watch_channel::digit_step` meets its contract. Assumes nothing.
+-- `watch_numbers::digit_step` meets its contract. Assumes nothing.
 use borrow.Author.Tests.{le-leb, lt-leb}
-use Rattle.watch_channel.specs.Channel.{step}
+use Rattle.watch_numbers.specs.Numbers.{step}
 use borrow.Author.Needs.{needs}
-use Rattle.watch_channel.proofs.digit_step.Statement.{statement}
-use Rattle.watch_channel.proofs.digit_step.Tie as tie
+use Rattle.watch_numbers.proofs.digit_step.Statement.{statement}
+use Rattle.watch_numbers.proofs.digit_step.Tie as tie
 
 returns : tie.Need-returns
 unfolding step

@@ -1,9 +1,9 @@
--- `watch_channel::channel_of` meets its contract. Assumes nothing.
+-- `watch_numbers::channel_of` meets its contract. Assumes nothing.
 use borrow.Author.Tests.{ne-eqb, le-leb, lt-leb}
-use Rattle.watch_channel.specs.Channel.{channelOf}
+use Rattle.watch_numbers.specs.Numbers.{channelOf}
 use borrow.Author.Needs.{needs}
-use Rattle.watch_channel.proofs.channel_of.Statement.{statement}
-use Rattle.watch_channel.proofs.channel_of.Tie as tie
+use Rattle.watch_numbers.proofs.channel_of.Statement.{statement}
+use Rattle.watch_numbers.proofs.channel_of.Tie as tie
 
 returns : tie.Need-returns
 unfolding channelOf
