@@ -28,13 +28,13 @@ put-db-requires-2 : tie.Need-put-db-requires-2
 put-db-requires-2 c κs = search needs
 
 returns : tie.Need-returns
-returns c = simp (c .before .before .x .given .1) (c .put-db .ensures)
+returns c = simp (c .before .before .before .x .given .1) (c .put-db .ensures)
 
 returns-2 : tie.Need-returns-2
 returns-2 c = simp (c .before .before .before .enum-told .given .1) (c .put-right .ensures)
 
 returns-3 : tie.Need-returns-3
-returns-3 c = simp (c .before .before .enum-told2 .given .1, ← c .before .no-number .ensures) (c .put-db2 .ensures)
+returns-3 c = simp (c .before .before .before .enum-told2 .given .1, ← c .before .no-number .ensures) (c .put-db2 .ensures)
 
 pub put-worst-spec : {M : Type 1} → statement M
 put-worst-spec =
