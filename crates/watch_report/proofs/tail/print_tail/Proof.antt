@@ -6,10 +6,10 @@ use Rattle.watch_report.proofs.tail.print_tail.Statement.{statement}
 use Rattle.watch_report.proofs.tail.print_tail.Tie as tie
 
 abbrev Inv-loop : tie.InvT-loop
-Inv-loop s hops bank bank-f alive alive-hops rises k₀ k-end k = k-end ≡ length alive
+Inv-loop s hops bank bank-f worst worst-f alive alive-hops rises k₀ k-end k = k-end ≡ length alive
 
 abbrev μ-loop : tie.MeasureT-loop
-μ-loop s hops bank bank-f alive alive-hops rises k₀ k-end k = k-end - k
+μ-loop s hops bank bank-f worst worst-f alive alive-hops rises k₀ k-end k = k-end - k
 
 returns : tie.Need-returns Inv-loop μ-loop
 returns c = search needs
