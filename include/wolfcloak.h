@@ -129,10 +129,11 @@ uint16_t wolfcloak_gate_new(uint16_t *gate, size_t gate_len, double *gate_f, siz
                             int32_t on, int32_t off, int32_t early, const uint16_t *lengths, size_t lengths_len);
 
 /*
- * One hop, after the bank's update with the same hop: steps the smoothed dB and the windows, then writes for each channel 1 or 0
- * to rise and to drop, both n long. A channel rises where two whole windows of some length both reach the on level over its rise
- * floor and no neighbour within two channels is stronger, or where its smoothed dB reaches the early level over its effective
- * floor; it drops where its smoothed dB is below the off level over its effective floor.
+ * One hop, after the bank's update with the same hop: steps the smoothed dB and the windows, works out the threshold of each channel
+ * whose rise floor has moved (the gate remembers the others), then writes for each channel 1 or 0 to rise and to drop, both n long. A
+ * channel rises where two whole windows of some length both reach the on level over its rise floor and no neighbour within two
+ * channels is stronger, or where its smoothed dB reaches the early level over its effective floor; it drops where its smoothed dB is
+ * below the off level over its effective floor.
  * Refuses with 2 or 9 for the bank's stores, then for the gate's, then 8, then 5.
  */
 uint16_t wolfcloak_gate_update(const uint16_t *bank, size_t bank_len, const double *bank_f, size_t bank_f_len,
@@ -141,11 +142,13 @@ uint16_t wolfcloak_gate_update(const uint16_t *bank, size_t bank_len, const doub
                                uint8_t *rise, size_t rise_len, uint8_t *drop, size_t drop_len);
 
 /*
- * The marks as the gate stands, without a step: for a hop of static. Before the first update it writes zeros.
+ * The marks as the gate stands, without a step: for a hop of static. The bank's floors may have moved since the last update, so it
+ * brings the thresholds that the gate remembers up to date, and with them gate_f. Before the first update it writes zeros to rise
+ * and drop, and nothing to gate_f.
  * Refuses as the update does.
  */
 uint16_t wolfcloak_gate_hold(const uint16_t *bank, size_t bank_len, const double *bank_f, size_t bank_f_len,
-                             const uint16_t *gate, size_t gate_len, const double *gate_f, size_t gate_f_len,
+                             const uint16_t *gate, size_t gate_len, double *gate_f, size_t gate_f_len,
                              uint8_t *rise, size_t rise_len, uint8_t *drop, size_t drop_len);
 
 /* The smoothed dB of channel k; 0 before the first update. Refuses with 2 or 9 for the gate's stores, then 7. */

@@ -200,11 +200,17 @@ fn gate_update(t: &mut Tally, what: Arguments, l: &Lent, due: u16) {
 
 fn gate_hold(t: &mut Tally, what: Arguments, l: &Lent, due: u16) {
     let c = l.call();
-    let (mut rise, mut drop) = (l.rise.clone(), l.drop.clone());
+    let (mut f, mut rise, mut drop) = (l.gate_f.clone(), l.rise.clone(), l.drop.clone());
     let marks = (&mut rise[..l.rise_len], &mut drop[..l.drop_len]);
-    t.answer(what, lib::gate_hold((c.u, c.f), (c.gate, c.gate_f), marks), due);
-    let held = || Gate::of_stores(c.gate, c.gate_f).hold(&FloorBank::of_stores(c.u, c.f));
-    l.compare_marks(t, what, &rise, &drop, (due == 0).then(held));
+    t.answer(what, lib::gate_hold((c.u, c.f), (c.gate, &mut f[..l.gate_f_len]), marks), due);
+    let held = || {
+        let mut gate = Gate::of_stores(c.gate, c.gate_f);
+        let marks = gate.hold(&FloorBank::of_stores(c.u, c.f));
+        (gate.to_stores(), marks)
+    };
+    let (stores, marks) = (due == 0).then(held).unzip();
+    l.compare_gate(t, what, &l.gate, &f, stores);
+    l.compare_marks(t, what, &rise, &drop, marks);
 }
 
 const BEFORE: f64 = 12345.678;

@@ -1,7 +1,8 @@
 // Refusals: each fault, each pair of faults at once, and arbitrary words, stores and lengths.
 use crate::calls::{every_call, gate_making, making, Lent};
-use crate::floor::{self, FloorBank, Gate, ABSENT};
+use crate::floor::{FloorBank, Gate, ABSENT};
 use crate::numbers::{any_f32, any_f64, any_lengths, any_levels, beside, Rng};
+use crate::pairs;
 use crate::rules::{count_alone, gate_floats, Alone};
 use crate::tally::Tally;
 use crate::wolfcloak as lib;
@@ -252,7 +253,7 @@ pub fn any_words(t: &mut Tally, l: &Lent, rng: &mut Rng, times: usize) {
 }
 
 /// A bank that is sound and nothing more, with any floats.
-fn any_bank(n: usize, rng: &mut Rng) -> (Vec<u16>, Vec<f64>) {
+pub fn any_bank(n: usize, rng: &mut Rng) -> (Vec<u16>, Vec<f64>) {
     let (mut u, mut f) = FloorBank::new(n).to_stores();
     let blocks = n.div_ceil(32);
     u[1] = rng.pick(&[0, 0, 0, 1, 7, 14]);
@@ -277,7 +278,7 @@ fn any_bank(n: usize, rng: &mut Rng) -> (Vec<u16>, Vec<f64>) {
 }
 
 /// A gate that is sound and nothing more, with any floats; sums and smoothed dB often stand at the very edge of a rise or a drop.
-fn any_gate(bank: &(Vec<u16>, Vec<f64>), levels: [i32; 3], lengths: &[u16], rng: &mut Rng) -> (Vec<u16>, Vec<f64>) {
+pub fn any_gate(bank: &(Vec<u16>, Vec<f64>), levels: [i32; 3], lengths: &[u16], rng: &mut Rng) -> (Vec<u16>, Vec<f64>) {
     let oracle = FloorBank::of_stores(&bank.0, &bank.1);
     let n = oracle.n_channels();
     let (mut g, mut f) = Gate::made(n, levels, lengths).to_stores();
@@ -288,6 +289,9 @@ fn any_gate(bank: &(Vec<u16>, Vec<f64>), levels: [i32; 3], lengths: &[u16], rng:
         let level = rng.pick(&[off, early]);
         f[k] = beside(rng, oracle.effective_floor_db(k) + level);
     }
+    // pairs of all kinds, and below sums at the edges of the thresholds that will be judged with
+    pairs::put_untrue(&mut f, &bank.1[3 * n..], n, rng);
+    let thresholds = pairs::after(&f, &bank.1[3 * n..], n, on).1;
     let mut at = n;
     for l in g[6..].chunks_exact_mut(3).take_while(|l| l[0] > 0) {
         let m = l[0] as usize;
@@ -296,9 +300,9 @@ fn any_gate(bank: &(Vec<u16>, Vec<f64>), levels: [i32; 3], lengths: &[u16], rng:
         l[1] = if filled < 2 * m { filled } else { elsewhere } as u16;
         l[2] = filled as u16;
         at += 2 * m * n;
-        let one_for_all = floor::ladder(oracle.rise_floor_db(rng.below(n)) + on) * m as f64;
+        let one_for_all = thresholds[rng.below(n)] * m as f64;
         for k in 0..n {
-            let edge = if rng.one_in(2) { one_for_all } else { floor::ladder(oracle.rise_floor_db(k) + on) * m as f64 };
+            let edge = if rng.one_in(2) { one_for_all } else { thresholds[k] * m as f64 };
             f[at + k] = beside(rng, edge);
             f[at + n + k] = beside(rng, edge);
         }

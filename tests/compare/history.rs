@@ -65,7 +65,7 @@ impl Set {
         let answer = match s.kind {
             Kind::Bank => lib::bank_update(&mut self.u, &mut self.f, &s.db, &s.power, s.hold),
             Kind::Gate => lib::gate_update(bank, (&mut self.gate, &mut self.gate_f), (&s.db, &s.power), marks),
-            Kind::Hold => lib::gate_hold(bank, (&self.gate, &self.gate_f), marks),
+            Kind::Hold => lib::gate_hold(bank, (&self.gate, &mut self.gate_f), marks),
         };
         if answer == 0 {
             self.banks += (s.kind == Kind::Bank) as usize;

@@ -13,6 +13,7 @@ mod log_rows;
 mod logs;
 mod louder;
 mod numbers;
+mod pairs;
 mod plain_log;
 mod rules;
 mod runs;
@@ -52,6 +53,7 @@ fn job(i: usize, seed: u64, alone: &mut Alone) -> Option<Tally> {
     } else if i <= lists + SIZES.len() {
         let n = SIZES[i - lists - 1];
         (0..6000 / (n + 10)).for_each(|_| faults::any_sound_store(&mut t, n, &mut rng));
+        (0..6000 / (n + 10)).for_each(|_| pairs::any_pairs(&mut t, n, &mut rng));
     } else {
         let run = i - lists - SIZES.len() - 1;
         let n = *SIZES.get(run / PLANS.len())?;
@@ -94,8 +96,10 @@ fn main() {
     }
     let [floors, rises] = t.parted;
     t.check(floors > 0 && rises > 0 || jobs < usize::MAX, format_args!("histories made no difference before the end of the further list"));
+    t.check(t.untrue > 0 || jobs < usize::MAX, format_args!("untrue pairs never made a difference"));
     t.first.iter().for_each(|d| println!("difference: {d}"));
     println!("{} pairs of histories: floors parted for a while in {floors}, rises in {rises}", SETTINGS.len());
+    println!("{} marks were given by untrue pairs", t.untrue);
     println!(
         "seed {seed}: {} channel-hops, {} rises, {} drops, {} comparisons, {} differences",
         t.channel_hops, t.rises, t.drops, t.compared, t.differences

@@ -94,10 +94,11 @@ impl Gate {
         u
     }
 
-    /// The f64 store in its order: smoothed, then ring, recent and previous of each length.
+    /// The f64 store in its order: smoothed, then ring, recent and previous of each length, then the rise floors last used and
+    /// their thresholds.
     pub fn floats(&self) -> Vec<&[f64]> {
         let looks = self.looks.iter().flat_map(|l| [&l.ring[..], &l.recent, &l.previous]);
-        std::iter::once(&self.smoothed_db[..]).chain(looks).collect()
+        std::iter::once(&self.smoothed_db[..]).chain(looks).chain([&self.thr_src_db[..], &self.thr_lin]).collect()
     }
 
     pub fn to_stores(&self) -> (Vec<u16>, Vec<f64>) {
@@ -123,6 +124,8 @@ impl Gate {
             part(&mut look.recent);
             part(&mut look.previous);
         }
+        part(&mut gate.thr_src_db);
+        part(&mut gate.thr_lin);
         gate
     }
 }

@@ -81,10 +81,10 @@ fn is_level(x: i32) -> bool {
     (-800..=800).contains(&x)
 }
 
-/// How many floats a gate of n channels and these lengths takes, doubles dropped.
+/// How many floats a gate of n channels and these lengths takes, doubles dropped, with the two groups of R-3.
 pub fn gate_floats(n: usize, lengths: impl Iterator<Item = u16>) -> usize {
     let distinct: std::collections::BTreeSet<u16> = lengths.collect();
-    n + distinct.into_iter().map(|m| 2 * m as usize * n + 2 * n).sum::<usize>()
+    n + distinct.into_iter().map(|m| 2 * m as usize * n + 2 * n).sum::<usize>() + 2 * n
 }
 
 pub const GATE_MAKING: [Rule; 6] = [

@@ -3,6 +3,7 @@ use crate::calls::{gate_readings_of, readings_of, Call, Lent};
 use crate::faults;
 use crate::floor::{FloorBank, Gate};
 use crate::numbers::{any_f64, any_levels, sample, Feed, Rng};
+use crate::pairs;
 use crate::rules::{garbled, Alone};
 use crate::tally::Tally;
 use crate::wolfcloak as lib;
@@ -74,8 +75,9 @@ impl Both {
     fn compare_gate(&mut self, t: &mut Tally, what: Arguments, whole: bool) {
         t.words(what, &self.gate, &self.old_gate.words());
         let mut at = 0;
+        let last_ring = 3 * self.gate[5] as usize; // behind the lengths stand the pairs of R-3
         for (i, part) in self.old_gate.floats().into_iter().enumerate() {
-            if whole || i % 3 != 1 {
+            if whole || i % 3 != 1 || i > last_ring {
                 t.floats(what, &self.gate_f[at..at + part.len()], part);
             }
             at += part.len();
@@ -114,7 +116,7 @@ impl Both {
 
     fn gate_hold(&mut self, t: &mut Tally, what: Arguments) {
         let marks = (&mut self.rise[..], &mut self.drop[..]);
-        t.answer(what, lib::gate_hold((&self.u, &self.f), (&self.gate, &self.gate_f), marks), 0);
+        t.answer(what, lib::gate_hold((&self.u, &self.f), (&self.gate, &mut self.gate_f), marks), 0);
         let due = self.old_gate.hold(&self.old_bank);
         self.compare_marks(t, what, due);
         self.compare_gate(t, what, false);
@@ -126,7 +128,7 @@ impl Both {
         gate_readings_of(t, what, &c, [0, 0], Some(&self.old_gate), Some(&self.old_bank));
     }
 
-    /// Floats put into both f64 stores; now and then all smoothed dB of the gate become usual again.
+    /// Floats put into both f64 stores, untrue pairs among them; now and then all smoothed dB of the gate become usual again.
     fn inject(&mut self, rng: &mut Rng) {
         for store in [&mut self.f, &mut self.gate_f] {
             for _ in 0..1 + store.len().min(3000) / 9 {
@@ -134,6 +136,7 @@ impl Both {
                 store[i] = any_f64(rng);
             }
         }
+        pairs::put_untrue(&mut self.gate_f, &self.f[3 * self.rise.len()..], self.rise.len(), rng);
         if rng.one_in(3) {
             self.gate_f[..self.rise.len()].iter_mut().for_each(|x| *x = -110.0 + 50.0 * rng.unit());
         }

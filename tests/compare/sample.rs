@@ -181,7 +181,7 @@ impl List {
         self.stores(4, bank.to_stores());
         self.stores(10, gate.to_stores());
         let other = if n == 1 { 2 } else { n - 1 };
-        self.make_gate(other, 5 * other as usize, levels, &[1], 0);
+        self.make_gate(other, 7 * other as usize, levels, &[1], 0);
         self.gate(7, 8);
         self.gate(8, 8);
     }

@@ -92,29 +92,29 @@ static void window_rise(void)
 {
     static const uint16_t lengths[2] = {2, 2};
     uint16_t gate[WOLFCLOAK_GATE_LEN];
-    double gate_f[14], value = 0; /* 2 + (8 + 2 + 2), once */
+    double gate_f[18], value = 0; /* 2 + (8 + 2 + 2), once, + 2 + 2 */
     uint8_t rise[2] = {9, 9}, drop[2] = {9, 9};
 
-    expect("gate_f_len", wolfcloak_gate_f_len(2, lengths, 2), 14);
-    expect("gate_new", wolfcloak_gate_new(gate, 30, gate_f, 14, 2, 48, 16, WOLFCLOAK_NO_EARLY, lengths, 2), WOLFCLOAK_OK);
-    expect("gate_hold", wolfcloak_gate_hold(bank, 1070, bank_f, 10, gate, 30, gate_f, 14, rise, 2, drop, 2), WOLFCLOAK_OK);
+    expect("gate_f_len", wolfcloak_gate_f_len(2, lengths, 2), 18);
+    expect("gate_new", wolfcloak_gate_new(gate, 30, gate_f, 18, 2, 48, 16, WOLFCLOAK_NO_EARLY, lengths, 2), WOLFCLOAK_OK);
+    expect("gate_hold", wolfcloak_gate_hold(bank, 1070, bank_f, 10, gate, 30, gate_f, 18, rise, 2, drop, 2), WOLFCLOAK_OK);
     expect_marks("rise before the first hop", rise, 0, 0);
     expect_marks("drop before the first hop", drop, 0, 0);
     for (int hop = 1; hop <= 4; hop++) {
-        expect("gate_update", wolfcloak_gate_update(bank, 1070, bank_f, 10, gate, 30, gate_f, 14, tone_db, 2, tone, 2,
+        expect("gate_update", wolfcloak_gate_update(bank, 1070, bank_f, 10, gate, 30, gate_f, 18, tone_db, 2, tone, 2,
                                                     rise, 2, drop, 2), WOLFCLOAK_OK);
         expect_marks("window rise", rise, 0, hop == 4);
         expect_marks("drop", drop, 1, 0);
     }
     rise[1] = 9;
-    expect("gate_hold", wolfcloak_gate_hold(bank, 1070, bank_f, 10, gate, 30, gate_f, 14, rise, 2, drop, 2), WOLFCLOAK_OK);
+    expect("gate_hold", wolfcloak_gate_hold(bank, 1070, bank_f, 10, gate, 30, gate_f, 18, rise, 2, drop, 2), WOLFCLOAK_OK);
     expect_marks("rise of a hold", rise, 0, 1);
-    expect("smoothed_db", wolfcloak_smoothed_db(gate, 30, gate_f, 14, 1, &value), WOLFCLOAK_OK);
+    expect("smoothed_db", wolfcloak_smoothed_db(gate, 30, gate_f, 18, 1, &value), WOLFCLOAK_OK);
     expect("smoothed dB of the tone", value, -60);
-    expect("ema_rise", wolfcloak_ema_rise(bank, 1070, bank_f, 10, gate, 30, gate_f, 14, 1, &value), WOLFCLOAK_OK);
+    expect("ema_rise", wolfcloak_ema_rise(bank, 1070, bank_f, 10, gate, 30, gate_f, 18, 1, &value), WOLFCLOAK_OK);
     expect("early rise that is absent", value, 0);
-    expect("a channel too many", wolfcloak_smoothed_db(gate, 30, gate_f, 14, 2, &value), WOLFCLOAK_REFUSED_CHANNEL);
-    expect("a rise too short", wolfcloak_gate_hold(bank, 1070, bank_f, 10, gate, 30, gate_f, 14, rise, 1, drop, 2),
+    expect("a channel too many", wolfcloak_smoothed_db(gate, 30, gate_f, 18, 2, &value), WOLFCLOAK_REFUSED_CHANNEL);
+    expect("a rise too short", wolfcloak_gate_hold(bank, 1070, bank_f, 10, gate, 30, gate_f, 18, rise, 1, drop, 2),
            WOLFCLOAK_REFUSED_HOP_SIZE);
 }
 
@@ -123,22 +123,22 @@ static void early_rise(void)
 {
     static const uint16_t lengths[1] = {1}, none[1] = {0};
     uint16_t gate[WOLFCLOAK_GATE_LEN];
-    double gate_f[10], other_f[5], value = 7; /* 2 + (4 + 2 + 2), 1 + (2 + 1 + 1) */
+    double gate_f[14], other_f[7], value = 7; /* 2 + (4 + 2 + 2) + 2 + 2, 1 + (2 + 1 + 1) + 1 + 1 */
     uint8_t rise[2], drop[2];
 
-    expect("gate_new", wolfcloak_gate_new(gate, 30, gate_f, 10, 2, 800, -800, 80, lengths, 1), WOLFCLOAK_OK);
-    expect("ema_rise", wolfcloak_ema_rise(bank, 1070, bank_f, 10, gate, 30, gate_f, 10, 1, &value), WOLFCLOAK_OK);
+    expect("gate_new", wolfcloak_gate_new(gate, 30, gate_f, 14, 2, 800, -800, 80, lengths, 1), WOLFCLOAK_OK);
+    expect("ema_rise", wolfcloak_ema_rise(bank, 1070, bank_f, 10, gate, 30, gate_f, 14, 1, &value), WOLFCLOAK_OK);
     expect("early rise before the first hop", value, 0);
-    expect("gate_update", wolfcloak_gate_update(bank, 1070, bank_f, 10, gate, 30, gate_f, 10, tone_db, 2, tone, 2,
+    expect("gate_update", wolfcloak_gate_update(bank, 1070, bank_f, 10, gate, 30, gate_f, 14, tone_db, 2, tone, 2,
                                                 rise, 2, drop, 2), WOLFCLOAK_OK);
     expect_marks("early rise", rise, 0, 1);
     expect_marks("drop far below", drop, 0, 0);
-    expect("ema_rise", wolfcloak_ema_rise(bank, 1070, bank_f, 10, gate, 30, gate_f, 10, 1, &value), WOLFCLOAK_OK);
+    expect("ema_rise", wolfcloak_ema_rise(bank, 1070, bank_f, 10, gate, 30, gate_f, 14, 1, &value), WOLFCLOAK_OK);
     expect("early rise alone", value, 1);
-    expect("no lengths", wolfcloak_gate_new(gate, 30, gate_f, 10, 2, 801, 0, 0, none, 0), WOLFCLOAK_REFUSED_LENGTHS);
-    expect("a level too high", wolfcloak_gate_new(gate, 30, gate_f, 10, 2, 801, 0, 0, lengths, 1), WOLFCLOAK_REFUSED_LEVEL);
-    expect("gate_new", wolfcloak_gate_new(gate, 30, other_f, 5, 1, 0, 0, 0, lengths, 1), WOLFCLOAK_OK);
-    expect("a gate of another n", wolfcloak_gate_hold(bank, 1070, bank_f, 10, gate, 30, other_f, 5, rise, 2, drop, 2),
+    expect("no lengths", wolfcloak_gate_new(gate, 30, gate_f, 14, 2, 801, 0, 0, none, 0), WOLFCLOAK_REFUSED_LENGTHS);
+    expect("a level too high", wolfcloak_gate_new(gate, 30, gate_f, 14, 2, 801, 0, 0, lengths, 1), WOLFCLOAK_REFUSED_LEVEL);
+    expect("gate_new", wolfcloak_gate_new(gate, 30, other_f, 7, 1, 0, 0, 0, lengths, 1), WOLFCLOAK_OK);
+    expect("a gate of another n", wolfcloak_gate_hold(bank, 1070, bank_f, 10, gate, 30, other_f, 7, rise, 2, drop, 2),
            WOLFCLOAK_REFUSED_MISMATCH);
 }
 

@@ -15,6 +15,7 @@ pub mod WindowStores
 pub mod GateStores
 pub mod GoodGates
 pub mod FreshGates
+pub mod Pairs
 pub mod Quartiles
 pub mod SettledFloors
 pub mod Windows
@@ -23,6 +24,7 @@ pub mod Calls
 pub mod Made
 pub mod Demand3
 pub mod Sets
+pub mod Remembered
 pub mod Segments
 pub mod BinOrder
 pub mod LouderRings

@@ -20,9 +20,10 @@ use Rattle.model.specs.Gate.{Gate, distinct, freshGate}
 use Rattle.model.specs.GateCalls.{GateHop, goodLengths, stored, floatsFor, gateMakeRefusal, settingsOf, gateNew}
 use Rattle.model.specs.Demand3.{Call, bank, gate, Stores, answer, left, arguments, bankHop, gateHop, bankHops, gateHops, loud, firstSlowLoud, bankIn, Making, newBank, newGate, made, Made, Enough}
 use Rattle.model.specs.Sets.{gateIn, Sound, StaySound, CanBeMet}
+use Rattle.model.proofs.FreshGates.{bare}
 use Rattle.model.proofs.SettledFloors.{n-run}
 use Rattle.model.proofs.Rises.{make-run}
-use Rattle.model.proofs.Calls.{left-is, sound-left, sound-run, refuse, answer-is}
+use Rattle.model.proofs.Calls.{left-is, sound-left, bare-left, sound-run, refuse, answer-is}
 use Rattle.model.proofs.Made.{sound-made, bank-made, gate-made}
 
 pub stay-sound : StaySound
@@ -79,7 +80,7 @@ two-left s t c =
     record {
       sound = sound-left s c (t .sound);
       n = ap (λ (b : FloorBank). b .n) (l .bank-is) ∙ n-run (bankHop (answer s c) (arguments c)) (bankIn s) ∙ t .n;
-      gate-n = ap (λ (g : Gate). g .n) (l .gate-is) ∙ make-run (gateHop (answer s c) (arguments c)) (gateIn s) .n ∙ t .gate-n;
+      gate-n = ap (λ (g : Gate). g .n) (bare-left s c (t .sound)) ∙ make-run (gateHop (answer s c) (arguments c)) (bare (gateIn s)) .n ∙ t .gate-n;
     }
 
 bank-taken : (s : Stores) → Two s → answer s bankCall ≡ 0

@@ -26,7 +26,7 @@ pub data Call : Type 0 where
   gate : GateHop → List ℕ → List ℕ → Call
   hold : List ℕ → List ℕ → Call
 
--- the lent stores: the bank's and the gate's
+-- the lent stores: the bank's and the gate's, with the gate's pairs (R-3), which gate updates and holds change
 pub record Stores : Type 0 where
   pub bu : List ℕ
   pub bf : List Float
@@ -39,7 +39,9 @@ step s (bank h) = let a = bankUpdate (s .bu) (s .bf) h in (a .0, record { bu = a
 step s (gate h rise drop) =
     let a = gateUpdate (s .bu) (s .bf) (s .gu) (s .gf) h rise drop in
     (a .0, record { bu = s .bu; bf = s .bf; gu = a .1; gf = a .2 })
-step s (hold rise drop) = (gateHold (s .bu) (s .bf) (s .gu) (s .gf) rise drop .0, s)
+step s (hold rise drop) =
+    let a = gateHold (s .bu) (s .bf) (s .gu) (s .gf) rise drop in
+    (a .0, record { bu = s .bu; bf = s .bf; gu = s .gu; gf = a .1 })
 
 abbrev pub answer : Stores → Call → ℕ
 answer s c = step s c .0
@@ -51,7 +53,7 @@ left s c = step s c .1
 unfoldable pub risesOf : Stores → Call → List ℕ
 risesOf s (bank h) = []
 risesOf s (gate h rise drop) = gateUpdate (s .bu) (s .bf) (s .gu) (s .gf) h rise drop .3
-risesOf s (hold rise drop) = gateHold (s .bu) (s .bf) (s .gu) (s .gf) rise drop .1
+risesOf s (hold rise drop) = gateHold (s .bu) (s .bf) (s .gu) (s .gf) rise drop .2
 
 -- a call's arguments "apart from the lent stores and what the outputs held before"
 pub data Arguments : Type 0 where

@@ -20,6 +20,8 @@ pub mod SameAnswers
 pub mod Reach
 pub mod Demand3
 pub mod Sets
+pub mod Anew
+pub mod Remembered
 pub mod Exports
 pub mod Segments
 pub mod Louder

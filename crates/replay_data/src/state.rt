@@ -16,7 +16,7 @@ pub const MOST_F_LEN: usize = 136;
 pub const GATE_LEN: usize = 30;
 
 // The largest gate has 3 channels and the lengths 1, 5 and 375; its store is lent one too long, too.
-pub const MOST_GATE_F_LEN: usize = 2308;
+pub const MOST_GATE_F_LEN: usize = 2314;
 
 // The records start behind the tables.
 const RECORDS: usize = 3072;

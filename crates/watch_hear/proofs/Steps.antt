@@ -19,10 +19,10 @@ refusal size zero z = absurd (z refl)
 refusal size (suc r) z = refl
 
 module _ (bu : List ℕ) (bf : List Float) (gu : List ℕ) (gf : List Float) (h : GateHop) (rise drop : List ℕ) where
-  pub held : (b : Bool) (x : ℕ) (rise′ drop′ : List ℕ) → b ≡ true → (x, rise′, drop′) ≡ gateHold bu bf gu gf rise drop
-      → (x, gu, gf, rise′, drop′) ≡ gateJudged b bu bf gu gf h rise drop
+  pub held : (b : Bool) (x : ℕ) (f′ : List Float) (rise′ drop′ : List ℕ) → b ≡ true → (x, f′, rise′, drop′) ≡ gateHold bu bf gu gf rise drop
+      → (x, gu, f′, rise′, drop′) ≡ gateJudged b bu bf gu gf h rise drop
   unfolding gateJudged
-  held b x rise′ drop′ t e = rw t (ap (λ (a : ℕ × List ℕ × List ℕ). (a .0, gu, gf, a .1, a .2)) e)
+  held b x f′ rise′ drop′ t e = rw t (ap (λ (a : ℕ × List Float × List ℕ × List ℕ). (a .0, gu, a .1, a .2, a .3)) e)
 
   pub stepped : (b : Bool) (a : Gated) → b ≡ false → a ≡ gateUpdate bu bf gu gf h rise drop → a ≡ gateJudged b bu bf gu gf h rise drop
   unfolding gateJudged
