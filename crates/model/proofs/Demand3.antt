@@ -12,7 +12,7 @@ use Rattle.model.specs.Bank.{FloorBank, freshBank}
 use Rattle.model.specs.Windows.{PowerLooks, stepLook}
 use Rattle.model.specs.Gate.{Gate, among, freshGate, sampleOf, gateStep}
 use Rattle.model.specs.GateCalls.{GateHop, absent, settingsOf}
-use Rattle.model.specs.Demand3.{Call, Arguments, bank, gate, hold, Stores, arguments, answer, leftBy, bankHops, gateHops, bankUpdates, gateUpdates, risesOf, bankIn, Making, made, Made, SameFloors, Enough, Same, Demand3}
+use Rattle.model.specs.Demand3.{Call, Arguments, bank, gate, hold, write, Stores, arguments, answer, leftBy, bankHops, gateHops, bankUpdates, gateUpdates, risesOf, bankIn, Making, made, Made, SameFloors, Enough, Same, Demand3}
 use Rattle.model.specs.Sets.{gateIn, Sound}
 use Rattle.model.specs.Anew.{riseBytesAnew}
 use Rattle.model.specs.Remembered.{PairsTrue}
@@ -77,18 +77,19 @@ stepped-same s t r db power =
 judged-same : (s t : Stores) → Ready s t → (a : Arguments) → judged s a ≡ judged t a
 unfolding judged
 judged-same s t r (bank h) = refl
-judged-same s t r (gate h i j) =
+judged-same s t r (gate c h i j) =
     update-anew (gateIn s) (bankIn s) (h .db) (h .power) (r .one)
     ∙ stepped-same s t r (h .db) (h .power)
     ∙ sym (update-anew (gateIn t) (bankIn t) (h .db) (h .power) (r .other))
-judged-same s t r (hold i j) =
+judged-same s t r (hold c i j) =
     hold-anew (gateIn s) (bankIn s) (r .one)
     ∙ rises-same (gateIn s) (gateIn t) (bankIn s) (bankIn t) (r .make) (r .early) (r .looks) (r .started) (r .rise)
     ∙ sym (hold-anew (gateIn t) (bankIn t) (r .other))
+judged-same s t r (write i v) = refl
 
 next-rises : (s t : Stores) → Twins s t → Ready s t → (c d : Call) → arguments c ≡ arguments d → answer s c ≡ 0 → risesOf s c ≡ risesOf t d
 next-rises s t w r c d e z =
-    rises-are s c z ∙ judged-same s t r (arguments c) ∙ ap (judged t) e ∙ sym (rises-are t d (sym (same-answer s t w c d e) ∙ z))
+    rises-are s (w .one) c z ∙ judged-same s t r (arguments c) ∙ ap (judged t) e ∙ sym (rises-are t (w .other) d (sym (same-answer s t w c d e) ∙ z))
 
 -- ---- demand 3
 

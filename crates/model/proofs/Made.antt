@@ -1,29 +1,34 @@
 -- What making leaves where it is not refused: the stores of a fresh bank and a fresh gate, both sound. Assumes nothing.
-use mathlib.Core.Path.{_≡_, sym, ap, _∙_, subst}
+use mathlib.Core.Path.{_≡_, refl, sym, ap, ap₂, _∙_, subst}
 use mathlib.Core.Bool.{true, not, _&&_, _||_}
 use mathlib.Core.Logic.{_⊎_, inl, inr}
 use mathlib.Core.List.{List}
 use Prim.Native.Nat.{ℕ, _≤_}
 use native.Mathlib.Omega.{arith}
-use lib.ListN.{length}
+use lib.ListN.{length, getD}
 use lib.IntN.{ℤ, pos, negsuc}
 use borrow.Author.Tests.{not-false, leb-true, eqb-true}
 use Rattle.laws.specs.Tests.{within}
 use Rattle.laws.proofs.Tests.{by-test, passed, within-of, and-l, and-r, clash}
 use Rattle.model.specs.Bank.{FloorBank, freshBank}
 use Rattle.model.specs.Stores.{bankU, bankF}
-use Rattle.model.specs.Gate.{Settings, freshGate}
+use Rattle.model.specs.Gate.{Gate, Settings, freshGate}
 use Rattle.model.specs.GateStores.{gateU, gateF}
 use Rattle.model.specs.GateCalls.{goodLengths, stored, goodLevel, absent, gateMakeRefusal, settingsOf, gateLeaves, gateNew}
 use Rattle.model.specs.GoodBank.{Good}
 use Rattle.model.proofs.GoodBanks.{bank-back, passes}
 use Rattle.model.proofs.FreshBanks.{good-fresh}
 use Rattle.model.specs.GoodGate.{GoodGate}
-use Rattle.model.proofs.GoodGates.{gate-back, gate-passes}
+use Rattle.model.proofs.GoodGates.{gate-back, gate-passes, n-of}
 use Rattle.model.proofs.FreshGates.{good-fresh-gate}
 use Rattle.model.proofs.Reach.{made-fresh}
 use Rattle.model.proofs.SettledFloors.{runBank}
-use Rattle.model.specs.Demand3.{Call, Stores, leftBy, bankHops, bankIn, Making, newBank, newGate, made, Made}
+use Rattle.model.specs.Map.{freshMap}
+use Rattle.model.specs.MapCalls.{mapMakeRefusal, mapRefusal, afterGate, unlessRefused, mapNew}
+use Rattle.model.proofs.MapRefusals.{is-map}
+use Rattle.model.proofs.MapFlags.{long-fresh, fresh-sound}
+use Rattle.model.proofs.MapReach.{refusal-is}
+use Rattle.model.specs.Demand3.{Call, Stores, leftBy, bankHops, bankIn, Making, newBank, newGate, newMap, made, Made}
 use Rattle.model.specs.Sets.{gateIn, Sound}
 use Rattle.model.proofs.Calls.{SoundBank, bank-run, gate-answer}
 
@@ -117,6 +122,20 @@ module _ (k : Making) (s : Stores) (d : Made k s) where
   pub gate-made : gateIn (made k s) ≡ freshGate (settings k)
   gate-made = rw (gate-stores .0, gate-stores .1) (gate-back (freshGate (settings k)) good-gate)
 
+  pub n-made : getD (made k s .gu) 0 0 ≡ k .gate-n
+  n-made = sym (n-of (made k s .gu) (made k s .gf)) ∙ ap (λ (g : Gate). g .n) gate-made ∙ (unfold freshGate settingsOf in refl)
+
+  -- R-12: the map beside it
+  pub map-made : made k s .map ≡ freshMap (k .gate-n)
+  unfolding newMap mapNew
+  map-made =
+      let r = afterGate (newGate k s .1) (newGate k s .2) (λ n. mapMakeRefusal n (s .map)) in
+      let f = freshMap (getD (newGate k s .1) 0 0) in
+      ap (λ (x : ℕ). unlessRefused x f (s .map) .1) (sym (refusal-is r f (s .map)) ∙ d .map) ∙ ap freshMap n-made
+
+  map-passes : mapRefusal (getD (made k s .gu) 0 0) (made k s .map) ≡ 0
+  map-passes = ap₂ mapRefusal n-made map-made ∙ sym (is-map (k .gate-n) (freshMap (k .gate-n)) (long-fresh (k .gate-n)) (fresh-sound (k .gate-n)))
+
   pub sound-made : Sound (made k s)
   sound-made =
       let b = sound-bank-made k s (d .bank) in
@@ -125,4 +144,5 @@ module _ (k : Making) (s : Stores) (d : Made k s) where
         bank-good = b .bank-good;
         gate-passes = rw (gate-stores .0, gate-stores .1) (gate-passes (freshGate (settings k)) good-gate);
         gate-good = subst GoodGate (sym gate-made) good-gate;
+        map-passes = map-passes;
       }

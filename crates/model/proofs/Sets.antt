@@ -18,7 +18,9 @@ use Rattle.model.specs.Refusals.{makeRefusal, garbled}
 use Rattle.model.specs.Calls.{bankNew}
 use Rattle.model.specs.Gate.{Gate, distinct, freshGate}
 use Rattle.model.specs.GateCalls.{GateHop, goodLengths, stored, floatsFor, gateMakeRefusal, settingsOf, gateNew}
-use Rattle.model.specs.Demand3.{Call, bank, gate, Stores, answer, left, arguments, bankHop, gateHop, bankHops, gateHops, loud, firstSlowLoud, bankIn, Making, newBank, newGate, made, Made, Enough}
+use Rattle.model.specs.Demand3.{Call, bank, gate, Stores, answer, left, arguments, bankHop, gateHop, bankHops, gateHops, loud, firstSlowLoud, bankIn, Making, newBank, newGate, newMap, made, Made, Enough}
+use Rattle.model.specs.Map.{mapLong}
+use Rattle.model.specs.MapCalls.{mapMakeRefusal, mapNew}
 use Rattle.model.specs.Sets.{gateIn, Sound, StaySound, CanBeMet}
 use Rattle.model.proofs.FreshGates.{bare}
 use Rattle.model.proofs.SettledFloors.{n-run}
@@ -29,18 +31,18 @@ use Rattle.model.proofs.Made.{sound-made, bank-made, gate-made}
 pub stay-sound : StaySound
 stay-sound k p d cs = sound-run cs (made k p) (sound-made k p d)
 
--- ---- two channels, one length of 1, levels 0, early absent
+-- ---- two channels, one length of 1, levels 0, early absent; each gate update carries the map
 
 two : Making
 two = record { n = 2; gate-n = 2; on = pos 0; off = pos 0; early = pos 65535; lengths = 1 ∷ [] }
 
 -- lent stores of the right lengths
 lent : Stores
-lent = record { bu = replicate (bankLen 2) 0; bf = replicate (bankFLen 2) f0; gu = replicate 30 0; gf = replicate (floatsFor 2 (1 ∷ [])) f0 }
+lent = record { bu = replicate (bankLen 2) 0; bf = replicate (bankFLen 2) f0; gu = replicate 30 0; gf = replicate (floatsFor 2 (1 ∷ [])) f0; map = replicate (mapLong 2) 0 }
 
 two-made : Made two lent
-unfolding two lent newBank newGate bankNew gateNew makeRefusal gateMakeRefusal goodLengths stored distinct
-two-made = record { bank = refl; gate = refl }
+unfolding two lent newBank newGate newMap bankNew gateNew mapNew makeRefusal gateMakeRefusal mapMakeRefusal goodLengths stored distinct
+two-made = record { bank = refl; gate = refl; map = refl }
 
 -- ---- its hops, all zeros
 
@@ -54,7 +56,7 @@ abbrev bankCall : Call
 bankCall = bank zeros
 
 abbrev gateCall : Call
-gateCall = gate gateZeros (0 ∷ 0 ∷ []) (0 ∷ 0 ∷ [])
+gateCall = gate true gateZeros (0 ∷ 0 ∷ []) (0 ∷ 0 ∷ [])
 
 abbrev calls : ℕ → ℕ → List Call
 calls i j = replicate i bankCall ++ replicate j gateCall
