@@ -26,11 +26,11 @@ use Rattle.model.proofs.GoodGates.{gate-back, gate-passes, gate-ready, 
 use Rattle.model.proofs.FreshGates.{bare, good-update, good-hold}
 use Rattle.model.proofs.Pairs.{true-update, true-hold, bare-update, bare-hold}
 use Rattle.model.specs.Map.{mapLong}
-use Rattle.model.specs.MapCalls.{mapRefusal, addressRefusal, afterGate, mapWrite, updateIf, holdIf}
+use Rattle.model.specs.MapCalls.{mapRefusal, updateIf, holdIf}
 use Rattle.model.specs.MapReach.{mapLeftBy}
 use Rattle.model.specs.MapSets.{onMap}
 use Rattle.model.proofs.MapRefusals.{is-map, good-map}
-use Rattle.model.proofs.MapReach.{kept-by, write-does, refusal-is}
+use Rattle.model.proofs.MapReach.{kept-by, write-does, write-answer}
 use Rattle.model.proofs.MapCarried.{hold-same, update-same, update-hears, hold-hears}
 use Rattle.model.specs.Demand3.{Call, Arguments, bank, gate, hold, write, Stores, step, answer, left, risesOf, arguments, leftBy, answers, bankHop, gateHop, bankHops, gateHops, bankIn}
 use Rattle.model.specs.Sets.{gateIn, Sound}
@@ -317,7 +317,7 @@ unfolding step bankUpdate updateRefusal bankOf refuse
 bank-answer s v h ng = leaves-answer (updateRefusal (s .bu) (s .bf) (h .db) (h .power)) _ (s .bu) (s .bf) ∙ rw (v .bank-passes)
 
 pub answer-is : (s : Stores) → Sound s → (c : Call) → answer s c ≡ refuse (bankIn s .n) (bankIn s .phase) (gateIn s .n) (arguments c)
-unfolding step gateUpdate gateUpdateRefusal pairRefusal gateHold holdRefusal mapWrite addressRefusal bankOf gateOf refuse
+unfolding step gateUpdate gateUpdateRefusal pairRefusal gateHold holdRefusal bankOf gateOf refuse
 answer-is s v (bank h) = bank-answer s (sound-bank s v) h (gateIn s .n)
 answer-is s v (gate c h rise drop) =
     ap (λ (a : ℕ × List ℕ × List Float × List ℕ × List ℕ). a .0) (update-same (s .bu) (s .bf) (s .gu) (s .gf) (s .map) (v .map-passes) c h rise drop)
@@ -326,7 +326,7 @@ answer-is s v (gate c h rise drop) =
 answer-is s v (hold c rise drop) =
     ap (λ (a : ℕ × List Float × List ℕ × List ℕ). a .0) (hold-same (s .bu) (s .bf) (s .gu) (s .gf) (s .map) (v .map-passes) c rise drop)
     ∙ rw (v .bank-passes, v .gate-passes)
-answer-is s v (write i x) = refusal-is (afterGate (s .gu) (s .gf) (λ n. addressRefusal n (s .map) i)) _ (s .map) ∙ rw (v .gate-passes, v .map-passes)
+answer-is s v (write i x) = write-answer (s .gu) (s .gf) (s .map) (v .gate-passes) (v .map-passes) i x
 
 -- ---- the rises that an accepted call writes
 

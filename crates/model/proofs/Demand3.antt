@@ -30,7 +30,7 @@ module _ (k : Making) (p : Stores) (d : Made k p) where
   bank-heard = bank-hears k p (d .bank)
 
   gate-heard : (cs : List Call) → bare (gateIn (leftBy (made k p) cs)) ≡ runGate (bare (freshGate (settings k))) (gateHops (made k p) cs)
-  gate-heard cs = gate-run cs (made k p) (sound-made k p d) ∙ ap (λ (x : Gate). runGate (bare x) (gateHops (made k p) cs)) (gate-made k p d)
+  gate-heard cs = gate-run cs (made k p) (sound-made k p d) ∙ ap (λ (x : Gate). runGate (bare x) (gateHops (made k p) cs)) (gate-made k p (d .gate))
 
   n-heard : (cs : List Call) → bankIn (leftBy (made k p) cs) .n ≡ k .n
   n-heard cs = ap (λ (b : FloorBank). b .n) (bank-heard cs) ∙ n-run (bankHops (made k p) cs) (freshBank (k .n)) ∙ (unfold freshBank in refl)
@@ -50,7 +50,7 @@ module _ (k : Making) (p : Stores) (d : Made k p) where
 
   -- R-3: the pairs of two sets may differ, but they are true
   true-heard : (cs : List Call) → PairsTrue (gateIn (leftBy (made k p) cs))
-  true-heard cs = true-run cs (made k p) (sound-made k p d) (subst PairsTrue (sym (gate-made k p d)) (true-fresh (settings k)))
+  true-heard cs = true-run cs (made k p) (sound-made k p d) (subst PairsTrue (sym (gate-made k p (d .gate))) (true-fresh (settings k)))
 
 make-join : (a b c : Gate) → SameMake (bare a) (bare c) → SameMake (bare b) (bare c) → SameMake a b
 make-join a b c x y = record { n = x .n ∙ sym (y .n); on = x .on ∙ sym (y .on); early = x .early ∙ sym (y .early) }
@@ -173,7 +173,7 @@ module _ (k : Making) (p q : Stores) (mp : Made k p) (mq : Made k q) (xs ys : Li
           early = make-s .early ∙ (unfold freshGate settingsOf in stored-absent (k .early) a);
           looks =
               ap (λ (x : Gate). x .looks) gate-s
-              ∙ looks-forget (settings k) (gateHops (made k p) xs) (gateHops (made k q) ys) (gateHops s fs) (unfold settingsOf in lengths-good k p mp)
+              ∙ looks-forget (settings k) (gateHops (made k p) xs) (gateHops (made k q) ys) (gateHops s fs) (unfold settingsOf in lengths-good k p (mp .gate))
               (unfold settingsOf in eg) (omega (arith, h .gate-updates))
               ∙ sym (ap (λ (x : Gate). x .looks) gate-t);
           started =

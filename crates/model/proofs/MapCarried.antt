@@ -4,32 +4,39 @@ use mathlib.Core.Path.{_≡_, refl, sym, ap, _∙_}
 use mathlib.Core.Bool.{Bool, true, false, not, _||_}
 use mathlib.Core.List.{List}
 use Prim.Native.Nat.{ℕ, zero, suc}
+use native.Mathlib.Omega.{arith}
 use lib.Dec.{eqb}
 use lib.ListN.{length, getD}
 use lib.Ieee.{Float}
-use borrow.Author.Tests.{eq-eqb}
+use borrow.Author.Tests.{ne-eqb}
 use Rattle.laws.specs.Tests.{differ, first}
 use Rattle.laws.proofs.Tabs.{length-tab}
 use Rattle.model.specs.Bank.{FloorBank}
 use Rattle.model.specs.Stores.{bankOf}
+use Rattle.model.specs.Refusals.{bankRefusal}
 use Rattle.model.specs.Gate.{Gate, gateStep, refresh, updateStep, holdStep, riseBytes, dropBytes}
 use Rattle.model.specs.GateStores.{gateOf}
-use Rattle.model.specs.GateCalls.{GateHop, pairRefusal, gateUpdateRefusal, holdRefusal, gateLeaves, marksOf, gateUpdate, gateHold}
-use Rattle.model.specs.Map.{marksSet}
+use Rattle.model.specs.GateCalls.{GateHop, gateRefusal, orElse, pairRefusal, gateUpdateRefusal, holdRefusal, gateLeaves, marksOf, gateUpdate, gateHold}
 use Rattle.model.specs.MapCalls.{mapRefusal, pairMapRefusal, updateMapRefusal, holdMapRefusal, mapAfter, gateUpdateMap, gateHoldMap, updateIf, holdIf}
-use Rattle.model.specs.MapReach.{MapCall, marks, mapLeft, mapLeftBy, IsMap}
+use Rattle.model.specs.MapReach.{marks, mapLeftBy, IsMap}
 use Rattle.model.specs.MapSets.{accepted}
 use Rattle.model.proofs.GoodGates.{n-of}
 use Rattle.model.proofs.Pairs.{bare-hold}
-use Rattle.model.proofs.MapRefusals.{is-map, good-map}
-use Rattle.model.proofs.MapReach.{keeps, marks-do}
+use Rattle.model.proofs.MapRefusals.{good-map}
+use Rattle.model.proofs.MapReach.{marks-do}
 
 -- ---- as without the map
+
+or-none : (r : ℕ) → orElse r 0 ≡ r
+or-none zero = refl
+or-none (suc r) = rw (ne-eqb (suc r) 0 (λ q. omega arith))
 
 module _ (bu : List ℕ) (bf : List Float) (gu : List ℕ) (gf : List Float) (m : List ℕ) (e : mapRefusal (getD gu 0 0) m ≡ 0) where
   same-pair : pairMapRefusal bu bf gu gf m ≡ pairRefusal bu bf gu gf
   unfolding pairMapRefusal pairRefusal
-  same-pair = rw (eq-eqb (mapRefusal (getD gu 0 0) m) 0 e)
+  same-pair =
+      ap (λ (x : ℕ). orElse (bankRefusal bu bf) (orElse x (first (differ (getD bu 0 0) (getD gu 0 0)) 8 0)))
+      (ap (orElse (gateRefusal gu gf)) e ∙ or-none (gateRefusal gu gf))
 
   pub hold-same : (c : Bool) (rise fall : List ℕ) → let a = holdIf c bu bf gu gf m rise fall in (a .0, a .1, a .3, a .4) ≡ gateHold bu bf gu gf rise fall
   unfolding gateHoldMap gateHold holdMapRefusal holdRefusal

@@ -4,12 +4,13 @@ use mathlib.Core.Bool.{Bool, true, false, not, _&&_, _||_, and-comm}
 use mathlib.Core.List.{List, [], _∷_, _++_}
 use Prim.Native.Nat.{ℕ, zero, suc, _+_, _*_, _/_, _%_, _<_}
 use native.Mathlib.Omega.{arith}
-use lib.Dec.{eqb}
+use lib.Dec.{eqb, ltb}
 use lib.ListN.{length, getD}
 use lib.Ieee.{Float}
 use borrow.Author.Tests.{ne-eqb, not-true}
 use Rattle.laws.proofs.Tests.{by-test, clash, and-l, and-r, and-true}
 use Rattle.laws.specs.Lists.{one}
+use Rattle.laws.specs.Tests.{first}
 use Rattle.laws.specs.Bits.{bitAt, width}
 use Rattle.model.specs.GateCalls.{gateRefusal}
 use Rattle.model.specs.Map.{mapLong, riseFlag, dropFlag, wire, freshMap, marked, marksSet, written}
@@ -194,6 +195,10 @@ module _ (gu : List ℕ) (gf : List Float) (m : List ℕ) (e : gateRefusal gu gf
   pub write-does : (a v : ℕ) → mapWrite gu gf m a v ≡ mapStep (getD gu 0 0) m (writes a v)
   unfolding mapStep mapWrite
   write-does a v = rw e
+
+  pub write-answer : mapRefusal (getD gu 0 0) m ≡ 0 → (a v : ℕ) → mapWrite gu gf m a v .0 ≡ first (not (ltb a (mapLong (getD gu 0 0)))) 15 0
+  unfolding mapWrite addressRefusal
+  write-answer q a v = refusal-is (afterGate gu gf (λ n. addressRefusal n m a)) (written (getD gu 0 0) m a v) m ∙ rw (e, q)
 
   -- these are lent the map to read only
   pub read-does : (a old : ℕ) → (mapRead gu gf m a old .0, m) ≡ mapStep (getD gu 0 0) m (reads a)

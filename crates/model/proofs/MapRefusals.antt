@@ -5,12 +5,16 @@ use mathlib.Core.List.{List}
 use Prim.Native.Nat.{ℕ, zero, suc, _<_, _≤_}
 use native.Mathlib.Omega.{arith}
 use lib.Dec.{eqb, ltb}
-use lib.ListN.{length}
+use lib.ListN.{length, getD}
+use lib.Ieee.{Float}
 use borrow.Author.Tests.{eq-eqb, ne-eqb, lt-ltb, le-ltb, le-leb, lt-leb, ltb-true, not-false}
 use Rattle.laws.specs.Tests.{within, differ, first}
 use Rattle.laws.proofs.Tests.{or-l, or-r, passed, same-of, goes-on, neither}
+use Rattle.model.specs.Refusals.{bankRefusal}
+use Rattle.model.specs.GateCalls.{gateRefusal}
+use Rattle.model.proofs.GoodGates.{n-of, gate-ready}
 use Rattle.model.specs.Map.{mapLong, soundMap}
-use Rattle.model.specs.MapCalls.{mapLen, mapMakeRefusal, mapRefusal, addressRefusal, unlessRefused}
+use Rattle.model.specs.MapCalls.{mapLen, mapMakeRefusal, mapRefusal, addressRefusal, afterGate, pairMapRefusal, unlessRefused}
 use Rattle.model.specs.MapReach.{marksRefusal}
 
 -- ---- the length
@@ -111,3 +115,52 @@ module _ {A : Type 0} where
   pub accepted : (q : ℕ) (x new old : A) → 0 ≡ q → x ≡ new → (0, x) ≡ unlessRefused q new old
   accepted zero x new old e h = ap (λ (y : A). (0, y)) h
   accepted (suc q) x new old e h = absurd (omega arith)
+
+-- ---- the gate before it
+
+-- the n of a gate that is not refused
+pub n-within : (gu : List ℕ) (gf : List Float) → gateRefusal gu gf ≡ 0 → (1 ≤ getD gu 0 0) × (getD gu 0 0 ≤ 512)
+n-within gu gf e = let g = gate-ready gu gf e in
+    (omega (arith, g .good .low, n-of gu gf), omega (arith, g .good .high, n-of gu gf))
+
+-- gate and map are not refused
+module _ (gu : List ℕ) (gf : List Float) (m : List ℕ) where
+  pub lent-map : afterGate gu gf (λ n. mapRefusal n m) ≡ 0
+      → (1 ≤ getD gu 0 0) × (getD gu 0 0 ≤ 512) × (length m ≡ mapLong (getD gu 0 0)) × (soundMap (getD gu 0 0) m ≡ true)
+  lent-map e =
+      let p = neither (gateRefusal gu gf) _ e in
+      let n = n-within gu gf (p .0) in
+      let g = good-map (getD gu 0 0) m (p .1) in
+      (n .0, n .1, g .0, g .1)
+
+  -- nor the address
+  pub lent-address : (a : ℕ) → afterGate gu gf (λ n. addressRefusal n m a) ≡ 0
+      → (1 ≤ getD gu 0 0) × (getD gu 0 0 ≤ 512) × (length m ≡ mapLong (getD gu 0 0)) × (a < mapLong (getD gu 0 0))
+  lent-address a e =
+      let p = neither (gateRefusal gu gf) _ e in
+      let n = n-within gu gf (p .0) in
+      let g = good-address (getD gu 0 0) m a (p .1) in
+      (n .0, n .1, good-map (getD gu 0 0) m (g .0) .0, g .1)
+
+  pub lent-room : afterGate gu gf (λ n. mapMakeRefusal n m) ≡ 0 → length m ≡ mapLong (getD gu 0 0)
+  unfolding mapMakeRefusal
+  lent-room e =
+      let p = neither (gateRefusal gu gf) _ e in
+      same-of (length m) (mapLong (getD gu 0 0)) (passed (differ (length m) (mapLong (getD gu 0 0))) 2 0 (omega arith) (p .1) .0)
+
+  pub lent-gate : (t : ℕ → ℕ) → afterGate gu gf t ≡ 0 → gateRefusal gu gf ≡ 0
+  lent-gate t e = neither (gateRefusal gu gf) (t (getD gu 0 0)) e .0
+
+-- bank, gate and map are not refused
+module _ (bu : List ℕ) (bf : List Float) (gu : List ℕ) (gf : List Float) (m : List ℕ) (e : pairMapRefusal bu bf gu gf m ≡ 0) where
+  pub pair-map : (bankRefusal bu bf ≡ 0) × (gateRefusal gu gf ≡ 0) × (mapRefusal (getD gu 0 0) m ≡ 0) × (getD bu 0 0 ≡ getD gu 0 0)
+  unfolding pairMapRefusal
+  pair-map =
+      let a = neither (bankRefusal bu bf) _ e in
+      let b = neither (afterGate gu gf (λ n. mapRefusal n m)) _ (a .1) in
+      let g = neither (gateRefusal gu gf) _ (b .0) in
+      let c = passed (differ (getD bu 0 0) (getD gu 0 0)) 8 0 (omega arith) (b .1) in
+      (a .0, g .0, g .1, same-of (getD bu 0 0) (getD gu 0 0) (c .0))
+
+  pub pair-gate : gateRefusal gu gf ≡ 0
+  pair-gate = pair-map .1

@@ -26,8 +26,8 @@ map-run n (c ∷ cs) s v e =
 
 pub map-hears : MapHears
 map-hears k p d cs =
-    map-run (k .gate-n) cs (made k p) (sound-made k p d) (n-made k p d)
-    ∙ ap (λ (m : List ℕ). mapLeftBy (k .gate-n) m (allOnMap (made k p) cs)) (map-made k p d)
+    map-run (k .gate-n) cs (made k p) (sound-made k p d) (n-made k p (d .gate))
+    ∙ ap (λ (m : List ℕ). mapLeftBy (k .gate-n) m (allOnMap (made k p) cs)) (map-made k p (d .gate) (d .map))
 
 pub none-lost-in-set : NoneLostInSet
 none-lost-in-set k p d cs g c l =

@@ -36,13 +36,12 @@ addressRefusal n m a = orElse (mapRefusal n m) (first (not (ltb a (mapLong n))) 
 abbrev pub afterGate : List ℕ → List Float → (ℕ → ℕ) → ℕ
 afterGate gu gf test = orElse (gateRefusal gu gf) (test (getD gu 0 0))
 
--- both stores, the map after its gate, then 8: bank and gate differ in n
+-- the bank, the gate and its map, then 8: bank and gate differ in n
 unfoldable pub pairMapRefusal : List ℕ → List Float → List ℕ → List Float → List ℕ → ℕ
 pairMapRefusal bu bf gu gf m =
     orElse (bankRefusal bu bf)
-    (orElse (gateRefusal gu gf)
-    (orElse (mapRefusal (getD gu 0 0) m)
-    (first (differ (getD bu 0 0) (getD gu 0 0)) 8 0)))
+    (orElse (afterGate gu gf (λ n. mapRefusal n m))
+    (first (differ (getD bu 0 0) (getD gu 0 0)) 8 0))
 
 -- then 5: a hop or output slice isn't n long
 unfoldable pub updateMapRefusal : List ℕ → List Float → List ℕ → List Float → List ℕ → ℕ → ℕ → ℕ → ℕ → ℕ
