@@ -3,10 +3,13 @@ use mathlib.Core.Path.{_≡_, refl}
 use mathlib.Core.Bool.{Bool, true, false}
 use mathlib.Core.List.{List, [], _∷_}
 use Prim.Native.Nat.{ℕ}
+use lib.ListN.{replicate}
 use Rattle.laws.specs.Tests.{allBelow, anyBelow}
 use Rattle.laws.specs.Bits.{bitAt, number, bitOf, bytesOf}
 use Rattle.model.specs.Map.{riseFlag, dropFlag, maskBit, wire, soundMap, freshMap, flagsSet, marksSet, cleared, replaced, written}
-use Rattle.model.specs.MapCalls.{mapRefusal, addressRefusal}
+use Rattle.model.specs.GateStores.{soundGate}
+use Rattle.model.specs.GateCalls.{gateRefusal}
+use Rattle.model.specs.MapCalls.{mapRefusal, addressRefusal, afterGate}
 
 none : List ℕ
 none = 0 ∷ 0 ∷ 0 ∷ 0 ∷ 0 ∷ 0 ∷ 0 ∷ 0 ∷ 0 ∷ []
@@ -51,3 +54,8 @@ past = refl
 sixth : addressRefusal 9 (9 ∷ 1 ∷ 2 ∷ 0 ∷ 0 ∷ 1 ∷ []) 6 ≡ 15
 unfolding addressRefusal mapRefusal soundMap allBelow riseFlag dropFlag maskBit bitOf bitAt
 sixth = refl
+
+-- a gate of zeros is unsound: 9, before the map is seen to be a byte too long
+gate-first : afterGate (replicate 30 0) [] (λ n. mapRefusal n (1 ∷ [])) ≡ 9
+unfolding gateRefusal soundGate mapRefusal
+gate-first = refl
