@@ -1,9 +1,8 @@
 -- What each operation does to each bit of a map, and that it leaves a map sound. Assumes nothing.
 use mathlib.Core.Path.{_≡_, refl, sym, ap, ap₂, _∙_}
-use mathlib.Core.Bool.{Bool, true, false, not, cond, _&&_, _||_, and-comm}
-use mathlib.Core.List.{List, [], _∷_, _++_}
+use mathlib.Core.Bool.{Bool, true, false, not, cond, _&&_, _||_}
+use mathlib.Core.List.{List, _++_}
 use Prim.Native.Nat.{ℕ, zero, suc, _+_, _-_, _*_, _/_, _%_, _<_, _≤_}
-use native.Mathlib.Nat.{eq-or-lt-of-le}
 use native.Mathlib.Omega.{arith}
 use lib.Dec.{eqb, ltb}
 use lib.ListN.{length, getD, set, replicate, length-append, length-set, length-replicate, getD-replicate, List·getD-eq-default}
@@ -12,7 +11,7 @@ use Rattle.laws.specs.Lists.{part}
 use Rattle.laws.specs.Tests.{anyBelow}
 use Rattle.laws.proofs.Tests.{by-test, clash, any-at}
 use Rattle.laws.proofs.Lists.{length-part}
-use Rattle.laws.specs.Bits.{bitAt, byte, width, bitOf, bytesOf}
+use Rattle.laws.specs.Bits.{bitAt, width, bitOf}
 use Rattle.laws.proofs.Bits.{bits-number, bit-at, bits-of, bits-part, bits-front, bits-behind, long}
 use Rattle.bits.proofs.Operators.{bits-zero, bits-set, bits-other}
 use Rattle.model.specs.Map.{mapLong, riseFlag, dropFlag, maskBit, wire, soundMap, freshMap, marked, flagsSet, marksSet, cleared, replaced, written}

@@ -1,23 +1,23 @@
 -- Lists of calls on a map: what they leave is sound, and no mark is lost. Assumes nothing.
-use mathlib.Core.Path.{_≡_, refl, sym, ap, subst, _∙_}
+use mathlib.Core.Path.{_≡_, refl, sym, ap, _∙_}
 use mathlib.Core.Bool.{Bool, true, false, not, _&&_, _||_, and-comm}
 use mathlib.Core.List.{List, [], _∷_, _++_}
-use Prim.Native.Nat.{ℕ, zero, suc, _+_, _*_, _/_, _%_, _<_}
+use Prim.Native.Nat.{ℕ, zero, suc, _+_, _/_, _%_, _<_}
 use native.Mathlib.Omega.{arith}
 use lib.Dec.{eqb, ltb}
 use lib.ListN.{length, getD}
 use lib.Ieee.{Float}
 use borrow.Author.Tests.{ne-eqb, not-true}
-use Rattle.laws.proofs.Tests.{by-test, clash, and-l, and-r, and-true}
+use Rattle.laws.proofs.Tests.{by-test, clash, and-l, and-r}
 use Rattle.laws.specs.Lists.{one}
 use Rattle.laws.specs.Tests.{first}
 use Rattle.laws.specs.Bits.{bitAt, width}
 use Rattle.model.specs.GateCalls.{gateRefusal}
 use Rattle.model.specs.Map.{mapLong, riseFlag, dropFlag, wire, freshMap, marked, marksSet, written}
 use Rattle.model.specs.MapCalls.{mapRefusal, addressRefusal, afterGate, unlessRefused, mapRead, mapWrite, mapWire}
-use Rattle.model.specs.MapReach.{MapCall, marks, writes, reads, wires, marksRefusal, mapStep, mapAnswer, mapLeft, mapLeftBy, IsMap, Reached, Kind, rises, drops, flagOf, addressOf, marksIn, marksIt, clearsIt, clearedBy, MarkedSince, Exactly, NoneLost}
-use Rattle.model.proofs.MapRefusals.{is-map, good-address, within-map, good-marks, taken-marks}
-use Rattle.model.proofs.MapFlags.{rise-read, rise-set, drop-set, long-marks, marks-sound, rise-written, drop-written, long-written, write-sound, long-fresh, fresh-rise, fresh-drop, fresh-sound}
+use Rattle.model.specs.MapReach.{MapCall, marks, writes, reads, wires, marksRefusal, mapStep, mapAnswer, mapLeft, mapLeftBy, IsMap, Reached, Kind, rises, drops, flagOf, addressOf, marksIn, marksIt, clearsIt, clearedBy, MarkedSince, NoneLost}
+use Rattle.model.proofs.MapRefusals.{is-map, good-address, good-marks, taken-marks}
+use Rattle.model.proofs.MapFlags.{rise-set, drop-set, long-marks, marks-sound, rise-written, drop-written, long-written, write-sound, long-fresh, fresh-rise, fresh-drop, fresh-sound}
 
 -- ---- one call
 

@@ -1,14 +1,14 @@
 -- The refusals of the calls on a map, one by one. Assumes nothing.
-use mathlib.Core.Path.{_≡_, refl, sym, ap, _∙_}
-use mathlib.Core.Bool.{Bool, true, false, not, _||_}
+use mathlib.Core.Path.{_≡_, sym, ap, _∙_}
+use mathlib.Core.Bool.{true, false, not, _||_}
 use mathlib.Core.List.{List}
 use Prim.Native.Nat.{ℕ, zero, suc, _<_, _≤_}
 use native.Mathlib.Omega.{arith}
-use lib.Dec.{eqb, ltb}
+use lib.Dec.{ltb}
 use lib.ListN.{length, getD}
 use lib.Ieee.{Float}
 use borrow.Author.Tests.{eq-eqb, ne-eqb, lt-ltb, le-ltb, le-leb, lt-leb, ltb-true, not-false}
-use Rattle.laws.specs.Tests.{within, differ, first}
+use Rattle.laws.specs.Tests.{differ, first}
 use Rattle.laws.proofs.Tests.{or-l, or-r, passed, same-of, goes-on, neither}
 use Rattle.model.specs.Refusals.{bankRefusal}
 use Rattle.model.specs.GateCalls.{gateRefusal}
@@ -80,10 +80,6 @@ module _ (n : ℕ) (m : List ℕ) where
   past-map a r e z h = goes-on (mapRefusal n m) (first (not (ltb a (mapLong n))) 15 0) 15 (sym e ∙ z) (rw (le-ltb a (mapLong n) h))
 
   -- ---- the marks
-  pub no-marks : (rise fall r : ℕ) → r ≡ mapRefusal n m → (r ≡ 0 → ⊥) → r ≡ marksRefusal n m rise fall
-  unfolding marksRefusal
-  no-marks rise fall r e h = rw (← e, ne-eqb r 0 h)
-
   -- what it means that there is none
   pub taken-marks : (rise fall : ℕ) → marksRefusal n m rise fall ≡ 0 → (mapRefusal n m ≡ 0) × (rise ≡ n) × (fall ≡ n)
   unfolding marksRefusal
@@ -93,14 +89,6 @@ module _ (n : ℕ) (m : List ℕ) where
       (p .0, same-of rise n (or-l (differ rise n) (differ fall n) q), same-of fall n (or-r (differ rise n) (differ fall n) q))
 
   module _ (rise fall r : ℕ) (e : r ≡ mapRefusal n m) (z : r ≡ 0) where
-    pub short-rise : (rise ≡ n → ⊥) → 5 ≡ marksRefusal n m rise fall
-    unfolding marksRefusal
-    short-rise h = goes-on (mapRefusal n m) (first (differ rise n || differ fall n) 5 0) 5 (sym e ∙ z) (rw (ne-eqb rise n h))
-
-    pub short-drop : rise ≡ n → (fall ≡ n → ⊥) → 5 ≡ marksRefusal n m rise fall
-    unfolding marksRefusal
-    short-drop g h = goes-on (mapRefusal n m) (first (differ rise n || differ fall n) 5 0) 5 (sym e ∙ z) (rw (eq-eqb rise n g, ne-eqb fall n h))
-
     pub good-marks : rise ≡ n → fall ≡ n → 0 ≡ marksRefusal n m rise fall
     unfolding marksRefusal
     good-marks g h = goes-on (mapRefusal n m) (first (differ rise n || differ fall n) 5 0) 0 (sym e ∙ z) (rw (eq-eqb rise n g, eq-eqb fall n h))

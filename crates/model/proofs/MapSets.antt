@@ -2,11 +2,11 @@
 use mathlib.Core.Path.{_≡_, refl, sym, ap, _∙_, subst}
 use mathlib.Core.Bool.{true}
 use mathlib.Core.List.{List, [], _∷_, _++_}
-use Prim.Native.Nat.{ℕ, _<_}
+use Prim.Native.Nat.{ℕ}
 use lib.ListN.{getD}
 use Rattle.model.specs.Map.{freshMap}
-use Rattle.model.specs.MapReach.{MapCall, mapLeft, mapLeftBy, Kind, flagOf, MarkedSince, Exactly}
-use Rattle.model.specs.Demand3.{Call, Stores, left, leftBy, Making, made, Made}
+use Rattle.model.specs.MapReach.{MapCall, mapLeft, mapLeftBy, flagOf, MarkedSince, Exactly}
+use Rattle.model.specs.Demand3.{Call, Stores, left, leftBy, made}
 use Rattle.model.specs.Sets.{Sound}
 use Rattle.model.specs.MapSets.{onMap, allOnMap, MapHears, NoneLostInSet}
 use Rattle.model.proofs.MapReach.{none-lost}

@@ -1,6 +1,6 @@
 -- Nine channels, worked out: w = 2, so a map has six bytes, and channel 8 is the lowest bit of the second. Assumes nothing.
 use mathlib.Core.Path.{_≡_, refl}
-use mathlib.Core.Bool.{Bool, true, false}
+use mathlib.Core.Bool.{true, false}
 use mathlib.Core.List.{List, [], _∷_}
 use Prim.Native.Nat.{ℕ}
 use lib.ListN.{replicate}

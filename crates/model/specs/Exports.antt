@@ -9,7 +9,7 @@ use Rattle.model.specs.Bank.{Hop}
 use Rattle.model.specs.Calls.{bankUpdate}
 use Rattle.model.specs.GateCalls.{GateHop, gateUpdate, gateHold}
 use Rattle.model.specs.MapCalls.{gateUpdateMap, gateHoldMap, mapWrite}
-use Rattle.model.specs.Demand3.{Call, bank, gate, hold, write, Stores, step, risesOf}
+use Rattle.model.specs.Demand3.{bank, gate, hold, write, Stores, step, risesOf}
 
 -- wolfcloak_bank_update, wolfcloak_bank_update_holding_reference
 pub bank-does : (s : Stores) (h : Hop) (r : ℕ) (u : List ℕ) (f : List Float) → (r, u, f) ≡ bankUpdate (s .bu) (s .bf) h

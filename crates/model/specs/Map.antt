@@ -1,6 +1,6 @@
 -- Document 02, R-12: the registers that the main processor reads and writes. For w = ceil(n / 8) a map is w bytes of rise flags, w of drop
 -- flags and w of mask, channel 0 in the lowest bit of the first byte of each.
-use mathlib.Core.Bool.{Bool, true, false, not, cond, _&&_, _||_}
+use mathlib.Core.Bool.{Bool, not, cond, _&&_, _||_}
 use mathlib.Core.List.{List, _++_}
 use Prim.Native.Nat.{ℕ, _+_, _-_, _*_}
 use lib.Dec.{eqb, ltb}

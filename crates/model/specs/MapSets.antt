@@ -8,7 +8,7 @@ use Prim.Native.Nat.{ℕ, zero, suc, _<_}
 use Rattle.model.specs.Map.{freshMap}
 use Rattle.model.specs.MapCalls.{updateIf, holdIf}
 use Rattle.model.specs.MapReach.{MapCall, marks, writes, mapLeftBy, Kind, flagOf, MarkedSince, Exactly}
-use Rattle.model.specs.Demand3.{Call, bank, gate, hold, write, Stores, answer, left, leftBy, Making, made, Made}
+use Rattle.model.specs.Demand3.{Call, bank, gate, hold, write, Stores, left, leftBy, Making, made, Made}
 
 -- a call that was accepted
 abbrev pub accepted : ℕ → MapCall → List MapCall

@@ -1,6 +1,6 @@
 -- `registers::map_new` meets its contract. Assumes nothing.
 use borrow.Author.Needs.{needs}
-use mathlib.Core.Path.{_≡_, sym, _∙_}
+use mathlib.Core.Path.{sym, _∙_}
 use lib.ListN.{getD}
 use Rattle.model.specs.Map.{freshMap}
 use Rattle.model.specs.MapCalls.{mapNew, mapMakeRefusal, afterGate}

@@ -2,7 +2,7 @@
 use borrow.Author.Needs.{needs}
 use mathlib.Core.Path.{_≡_, refl, sym, _∙_}
 use native.Mathlib.Omega.{arith}
-use lib.ListN.{length, getD}
+use lib.ListN.{getD}
 use Rattle.model.specs.MapCalls.{mapRead, addressRefusal, afterGate}
 use Rattle.model.proofs.MapRefusals.{lent-address, refused, accepted}
 use Rattle.registers.proofs.map_read.Statement.{statement}

@@ -1,10 +1,9 @@
 -- `registers::map_wire` meets its contract. Assumes nothing.
 use borrow.Author.Needs.{needs}
-use mathlib.Core.Path.{_≡_, sym, ap, subst, _∙_}
-use mathlib.Core.Bool.{true}
+use mathlib.Core.Path.{_≡_, sym, ap, _∙_}
 use Prim.Native.Nat.{ℕ}
 use native.Mathlib.Omega.{arith}
-use lib.ListN.{length, getD}
+use lib.ListN.{getD}
 use Rattle.laws.specs.Lists.{one}
 use Rattle.model.specs.Map.{mapLong, soundMap, wire}
 use Rattle.model.specs.MapCalls.{mapWire, mapRefusal, afterGate}

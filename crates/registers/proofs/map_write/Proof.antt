@@ -3,7 +3,7 @@ use borrow.Author.Needs.{needs}
 use mathlib.Core.Path.{_≡_, sym, ap, _∙_}
 use Prim.Native.Nat.{ℕ}
 use native.Mathlib.Omega.{arith}
-use lib.ListN.{length, getD}
+use lib.ListN.{getD}
 use Rattle.model.specs.Map.{mapLong, written}
 use Rattle.model.specs.MapCalls.{mapWrite, addressRefusal, afterGate}
 use Rattle.model.proofs.MapRefusals.{lent-gate, lent-address, refused, accepted}
