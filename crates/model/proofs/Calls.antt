@@ -26,7 +26,7 @@ use Rattle.model.proofs.GoodGates.{gate-back, gate-passes, gate-ready, 
 use Rattle.model.proofs.FreshGates.{bare, good-update, good-hold}
 use Rattle.model.proofs.Pairs.{true-update, true-hold, bare-update, bare-hold}
 use Rattle.model.specs.Map.{mapLong}
-use Rattle.model.specs.MapCalls.{mapRefusal, updateIf, holdIf}
+use Rattle.model.specs.MapCalls.{mapRefusal, gateUpdateIf, gateHoldIf}
 use Rattle.model.specs.MapReach.{mapLeftBy}
 use Rattle.model.specs.MapSets.{onMap}
 use Rattle.model.proofs.MapRefusals.{is-map, good-map}
@@ -161,7 +161,7 @@ left-bank s v (write i x) =
 -- the gate after an update or a hold, carrying the map or not: as without it
 module _ (s : Stores) (v : Sound s) (c : Bool) where
   update-leaves : (h : GateHop) (rise drop : List ℕ)
-      → let a = updateIf c (s .bu) (s .bf) (s .gu) (s .gf) (s .map) h rise drop in
+      → let a = gateUpdateIf c (s .bu) (s .bf) (s .gu) (s .gf) (s .map) h rise drop in
       (gateRefusal (a .1) (a .2) ≡ 0) × (gateOf (a .1) (a .2) ≡ gateAfter (a .0) (gateIn s) (bankIn s) (gate c h (length rise) (length drop)))
   unfolding gateUpdate
   update-leaves h rise drop =
@@ -173,7 +173,7 @@ module _ (s : Stores) (v : Sound s) (c : Bool) where
       (gateUpdateRefusal (s .bu) (s .bf) (s .gu) (s .gf) (length (h .db)) (length (h .power)) (length rise) (length drop)))
 
   hold-leaves : (rise drop : List ℕ)
-      → let a = holdIf c (s .bu) (s .bf) (s .gu) (s .gf) (s .map) rise drop in
+      → let a = gateHoldIf c (s .bu) (s .bf) (s .gu) (s .gf) (s .map) rise drop in
       (gateRefusal (s .gu) (a .1) ≡ 0) × (gateOf (s .gu) (a .1) ≡ gateAfter (a .0) (gateIn s) (bankIn s) (hold c (length rise) (length drop)))
   unfolding gateHold
   hold-leaves rise drop =

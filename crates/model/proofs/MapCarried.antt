@@ -17,7 +17,7 @@ use Rattle.model.specs.Refusals.{bankRefusal}
 use Rattle.model.specs.Gate.{Gate, gateStep, refresh, updateStep, holdStep, riseBytes, dropBytes}
 use Rattle.model.specs.GateStores.{gateOf}
 use Rattle.model.specs.GateCalls.{GateHop, gateRefusal, orElse, pairRefusal, gateUpdateRefusal, holdRefusal, gateLeaves, marksOf, gateUpdate, gateHold}
-use Rattle.model.specs.MapCalls.{mapRefusal, pairMapRefusal, updateMapRefusal, holdMapRefusal, mapAfter, gateUpdateMap, gateHoldMap, updateIf, holdIf}
+use Rattle.model.specs.MapCalls.{mapRefusal, pairMapRefusal, updateMapRefusal, holdMapRefusal, mapAfter, gateUpdateMap, gateHoldMap, gateUpdateIf, gateHoldIf}
 use Rattle.model.specs.MapReach.{marks, mapLeftBy, IsMap}
 use Rattle.model.specs.MapSets.{accepted}
 use Rattle.model.proofs.GoodGates.{n-of}
@@ -38,7 +38,7 @@ module _ (bu : List ℕ) (bf : List Float) (gu : List ℕ) (gf : List Float) (m 
       ap (λ (x : ℕ). orElse (bankRefusal bu bf) (orElse x (first (differ (getD bu 0 0) (getD gu 0 0)) 8 0)))
       (ap (orElse (gateRefusal gu gf)) e ∙ or-none (gateRefusal gu gf))
 
-  pub hold-same : (c : Bool) (rise fall : List ℕ) → let a = holdIf c bu bf gu gf m rise fall in (a .0, a .1, a .3, a .4) ≡ gateHold bu bf gu gf rise fall
+  pub hold-same : (c : Bool) (rise fall : List ℕ) → let a = gateHoldIf c bu bf gu gf m rise fall in (a .0, a .1, a .3, a .4) ≡ gateHold bu bf gu gf rise fall
   unfolding gateHoldMap gateHold holdMapRefusal holdRefusal
   hold-same true rise fall =
       ap (λ (x : ℕ).
@@ -48,7 +48,7 @@ module _ (bu : List ℕ) (bf : List Float) (gu : List ℕ) (gf : List Float) (m 
   hold-same false rise fall = refl
 
   pub update-same : (c : Bool) (h : GateHop) (rise fall : List ℕ)
-      → let a = updateIf c bu bf gu gf m h rise fall in (a .0, a .1, a .2, a .4, a .5) ≡ gateUpdate bu bf gu gf h rise fall
+      → let a = gateUpdateIf c bu bf gu gf m h rise fall in (a .0, a .1, a .2, a .4, a .5) ≡ gateUpdate bu bf gu gf h rise fall
   unfolding gateUpdateMap gateUpdate updateMapRefusal gateUpdateRefusal
   update-same true h rise fall =
       ap (λ (x : ℕ).

@@ -16,7 +16,7 @@ use Rattle.model.specs.Stores.{bankOf}
 use Rattle.model.specs.Calls.{bankNew, bankUpdate}
 use Rattle.model.specs.Gate.{among}
 use Rattle.model.specs.GateCalls.{GateHop, absent, gateNew}
-use Rattle.model.specs.MapCalls.{mapNew, mapWrite, updateIf, holdIf}
+use Rattle.model.specs.MapCalls.{mapNew, mapWrite, gateUpdateIf, gateHoldIf}
 
 -- ---- calls
 
@@ -41,10 +41,10 @@ pub record Stores : Type 0 where
 unfoldable pub step : Stores → Call → ℕ × Stores
 step s (bank h) = let a = bankUpdate (s .bu) (s .bf) h in (a .0, record { bu = a .1; bf = a .2; gu = s .gu; gf = s .gf; map = s .map })
 step s (gate c h rise drop) =
-    let a = updateIf c (s .bu) (s .bf) (s .gu) (s .gf) (s .map) h rise drop in
+    let a = gateUpdateIf c (s .bu) (s .bf) (s .gu) (s .gf) (s .map) h rise drop in
     (a .0, record { bu = s .bu; bf = s .bf; gu = a .1; gf = a .2; map = a .3 })
 step s (hold c rise drop) =
-    let a = holdIf c (s .bu) (s .bf) (s .gu) (s .gf) (s .map) rise drop in
+    let a = gateHoldIf c (s .bu) (s .bf) (s .gu) (s .gf) (s .map) rise drop in
     (a .0, record { bu = s .bu; bf = s .bf; gu = s .gu; gf = a .1; map = a .2 })
 step s (write i v) =
     let a = mapWrite (s .gu) (s .gf) (s .map) i v in
@@ -59,8 +59,8 @@ left s c = step s c .1
 -- what the output slice rise holds after a gate update or a hold
 unfoldable pub risesOf : Stores → Call → List ℕ
 risesOf s (bank h) = []
-risesOf s (gate c h rise drop) = updateIf c (s .bu) (s .bf) (s .gu) (s .gf) (s .map) h rise drop .4
-risesOf s (hold c rise drop) = holdIf c (s .bu) (s .bf) (s .gu) (s .gf) (s .map) rise drop .3
+risesOf s (gate c h rise drop) = gateUpdateIf c (s .bu) (s .bf) (s .gu) (s .gf) (s .map) h rise drop .4
+risesOf s (hold c rise drop) = gateHoldIf c (s .bu) (s .bf) (s .gu) (s .gf) (s .map) rise drop .3
 risesOf s (write i v) = []
 
 -- a call's arguments "apart from the lent stores and what the outputs held before"

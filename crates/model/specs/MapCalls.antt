@@ -104,11 +104,11 @@ gateHoldMap bu bf gu gf m rise drop =
     (r, gateLeaves r g gu gf .2, mapAfter r (getD gu 0 0) m marks, marks .0, marks .1)
 
 -- whether a call carries the map (true) or doesn't
-abbrev pub updateIf : Bool → List ℕ → List Float → List ℕ → List Float → List ℕ → GateHop → List ℕ → List ℕ
+abbrev pub gateUpdateIf : Bool → List ℕ → List Float → List ℕ → List Float → List ℕ → GateHop → List ℕ → List ℕ
     → ℕ × List ℕ × List Float × List ℕ × List ℕ × List ℕ
-updateIf true bu bf gu gf m h rise drop = gateUpdateMap bu bf gu gf m h rise drop
-updateIf false bu bf gu gf m h rise drop = let a = gateUpdate bu bf gu gf h rise drop in (a .0, a .1, a .2, m, a .3, a .4)
+gateUpdateIf true bu bf gu gf m h rise drop = gateUpdateMap bu bf gu gf m h rise drop
+gateUpdateIf false bu bf gu gf m h rise drop = let a = gateUpdate bu bf gu gf h rise drop in (a .0, a .1, a .2, m, a .3, a .4)
 
-abbrev pub holdIf : Bool → List ℕ → List Float → List ℕ → List Float → List ℕ → List ℕ → List ℕ → ℕ × List Float × List ℕ × List ℕ × List ℕ
-holdIf true bu bf gu gf m rise drop = gateHoldMap bu bf gu gf m rise drop
-holdIf false bu bf gu gf m rise drop = let a = gateHold bu bf gu gf rise drop in (a .0, a .1, m, a .2, a .3)
+abbrev pub gateHoldIf : Bool → List ℕ → List Float → List ℕ → List Float → List ℕ → List ℕ → List ℕ → ℕ × List Float × List ℕ × List ℕ × List ℕ
+gateHoldIf true bu bf gu gf m rise drop = gateHoldMap bu bf gu gf m rise drop
+gateHoldIf false bu bf gu gf m rise drop = let a = gateHold bu bf gu gf rise drop in (a .0, a .1, m, a .2, a .3)

@@ -6,7 +6,7 @@ use mathlib.Core.Bool.{true, false}
 use mathlib.Core.List.{List, [], _∷_, _++_}
 use Prim.Native.Nat.{ℕ, zero, suc, _<_}
 use Rattle.model.specs.Map.{freshMap}
-use Rattle.model.specs.MapCalls.{updateIf, holdIf}
+use Rattle.model.specs.MapCalls.{gateUpdateIf, gateHoldIf}
 use Rattle.model.specs.MapReach.{MapCall, marks, writes, mapLeftBy, Kind, flagOf, MarkedSince, Exactly}
 use Rattle.model.specs.Demand3.{Call, bank, gate, hold, write, Stores, left, leftBy, Making, made, Made}
 
@@ -21,11 +21,11 @@ unfoldable pub onMap : Stores → Call → List MapCall
 onMap s (bank h) = []
 onMap s (gate false h rise drop) = []
 onMap s (gate true h rise drop) =
-    let a = updateIf true (s .bu) (s .bf) (s .gu) (s .gf) (s .map) h rise drop in
+    let a = gateUpdateIf true (s .bu) (s .bf) (s .gu) (s .gf) (s .map) h rise drop in
     accepted (a .0) (marks (a .4) (a .5))
 onMap s (hold false rise drop) = []
 onMap s (hold true rise drop) =
-    let a = holdIf true (s .bu) (s .bf) (s .gu) (s .gf) (s .map) rise drop in
+    let a = gateHoldIf true (s .bu) (s .bf) (s .gu) (s .gf) (s .map) rise drop in
     accepted (a .0) (marks (a .3) (a .4))
 onMap s (write i v) = writes i v ∷ []
 

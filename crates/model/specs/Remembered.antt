@@ -9,7 +9,7 @@ use lib.Ieee.{nan}
 use Rattle.model.specs.Numbers.{f0}
 use Rattle.model.specs.Calls.{bankUpdate}
 use Rattle.model.specs.Gate.{Gate, thresholdOf}
-use Rattle.model.specs.MapCalls.{mapWrite, updateIf, holdIf}
+use Rattle.model.specs.MapCalls.{mapWrite, gateUpdateIf, gateHoldIf}
 use Rattle.model.specs.Demand3.{Call, bank, gate, hold, write, Stores, left, leftBy, Making, made, Made}
 use Rattle.model.specs.Sets.{gateIn}
 use Rattle.model.specs.Anew.{allSeenAnew}
@@ -29,10 +29,10 @@ StayTrue = (k : Making) (p : Stores) → Made k p → (cs : List Call) → Pairs
 unfoldable pub seen : Stores → Call → ℕ × List ℕ × List ℕ
 seen s (bank h) = (bankUpdate (s .bu) (s .bf) h .0, [], [])
 seen s (gate c h rise drop) =
-    let a = updateIf c (s .bu) (s .bf) (s .gu) (s .gf) (s .map) h rise drop in
+    let a = gateUpdateIf c (s .bu) (s .bf) (s .gu) (s .gf) (s .map) h rise drop in
     (a .0, a .4, a .5)
 seen s (hold c rise drop) =
-    let a = holdIf c (s .bu) (s .bf) (s .gu) (s .gf) (s .map) rise drop in
+    let a = gateHoldIf c (s .bu) (s .bf) (s .gu) (s .gf) (s .map) rise drop in
     (a .0, a .3, a .4)
 seen s (write i v) = (mapWrite (s .gu) (s .gf) (s .map) i v .0, [], [])
 
