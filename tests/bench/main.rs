@@ -8,6 +8,9 @@ mod floor;
 mod log_rows;
 mod logs;
 #[allow(dead_code)]
+#[path = "../compare/layout.rs"]
+mod layout;
+#[allow(dead_code)]
 #[path = "../compare/numbers.rs"]
 mod numbers;
 #[path = "../compare/plain_log.rs"]
@@ -16,6 +19,7 @@ mod plain_log;
 mod wolfcloak;
 
 use floor::{FloorBank, Gate};
+use layout::{DECIMATION_HOPS, RING_LEN, SETTLING};
 use numbers::{sample, Feed, Rng};
 use std::hint::black_box;
 use std::time::Instant;
@@ -52,9 +56,9 @@ fn bank_rows(n: usize, rounds: usize) {
     let (mut u, mut f) = oracle.to_stores();
     assert_eq!(wolfcloak::bank_new(&mut u, &mut f, n), 0);
     let [mut ordinary, mut slow, mut old_ordinary, mut old_slow, mut sums, mut tests]: [Vec<f64>; 6] = Default::default();
-    for hop in 0..rounds * 15 {
+    for hop in 0..rounds * DECIMATION_HOPS {
         let (db, power) = &hops[hop % hops.len()];
-        let is_slow = hop % 15 == 0;
+        let is_slow = hop % DECIMATION_HOPS == 0;
         let ours = time(|| wolfcloak::bank_update(&mut u, &mut f, db, power, None));
         let old = time(|| oracle.update(db, power));
         if is_slow { &mut slow } else { &mut ordinary }.push(ours);
@@ -75,18 +79,18 @@ fn bank_rows(n: usize, rounds: usize) {
     println!("  {:<22} {tests:9.2} µs   (a reading of the raw floor)", "soundness");
 }
 
-/// Ordinary hops of digital silence, once 250 slow hops have filled every ring with one bin.
+/// Ordinary hops of digital silence, once the slow hops have filled every ring with one bin.
 fn silence_rows(n: usize, rounds: usize) {
     let hops = hops(n, Feed::Silence);
     let mut oracle = FloorBank::new(n);
     let (mut u, mut f) = oracle.to_stores();
     assert_eq!(wolfcloak::bank_new(&mut u, &mut f, n), 0);
     let [mut ordinary, mut old_ordinary, mut tests]: [Vec<f64>; 3] = Default::default();
-    for hop in 0..(250 + rounds) * 15 {
+    for hop in 0..(RING_LEN + rounds) * DECIMATION_HOPS {
         let (db, power) = &hops[hop % hops.len()];
         let ours = time(|| wolfcloak::bank_update(&mut u, &mut f, db, power, None));
         let old = time(|| oracle.update(db, power));
-        if hop < 250 * 15 || hop % 15 == 0 {
+        if hop < SETTLING || hop % DECIMATION_HOPS == 0 {
             continue;
         }
         ordinary.push(ours);

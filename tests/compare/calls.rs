@@ -1,5 +1,6 @@
 // One set of arguments, lent to every function, and what is compared of each.
 use crate::floor::{FloorBank, Gate};
+use crate::layout::place;
 use crate::rules::{
     refusal, Rule, GATE_FLOATS, GATE_HOLD, GATE_MAKING, GATE_READ, GATE_SOUND, GATE_STORE, GATE_UPDATE, MAKING, PAIR, READ,
     SOUND, STORE, UPDATE,
@@ -265,7 +266,7 @@ pub fn readings_of(t: &mut Tally, what: Arguments, c: &Call, due: u16, oracle: O
     match oracle {
         None => t.check(part == [98765, 43210], format_args!("{what}: ring {k}: refused, and start and len have changed")),
         Some(o) if start <= u.len() && len <= u.len() - start => {
-            let places = 3 + (u[0] as usize).div_ceil(32) + 533 * k;
+            let places = place(u[0] as usize, k);
             t.check(start == places, format_args!("{what}: ring {k}: starts at {start}, and {places} is due"));
             t.words(format_args!("{what}: ring {k}"), &u[start..start + len], o.ring(k));
         }

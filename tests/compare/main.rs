@@ -1,6 +1,7 @@
 // The library beside floor.rs: the same calls, every answer, store word and reading compared.
 //   compare [SEED [JOBS]]   compare, all jobs or the first JOBS; the last line has the counts; status 1 if there is a difference
 //   compare sample FILE     write the kept list of calls with floor.rs's answers (README.md)
+mod bottom;
 mod calls;
 #[path = "build/channelizer.rs"]
 mod channelizer;
@@ -9,6 +10,7 @@ mod faults;
 #[path = "build/floor.rs"]
 mod floor;
 mod history;
+mod layout;
 mod log_rows;
 mod logs;
 mod louder;
@@ -18,6 +20,7 @@ mod pairs;
 mod plain_log;
 mod registers;
 mod rules;
+mod rungs;
 mod runs;
 mod sample;
 mod segments;
@@ -33,8 +36,8 @@ use tally::Tally;
 
 const SIZES: [usize; 13] = [1, 2, 3, 4, 5, 6, 31, 32, 33, 64, 65, 511, 512];
 
-/// Job i: the making of banks and gates, the hop logs, the dispatcher and the registers, two histories, two lists of which one is louder, arbitrary
-/// stores of some size, or a run of some size and plan.
+/// Job i: the making of banks and gates, the ladder, the hop logs, the dispatcher and the registers, two histories, two lists of which one is louder,
+/// arbitrary stores of some size, or a run of some size and plan.
 fn job(i: usize, seed: u64, alone: &mut Alone) -> Option<Tally> {
     let mut t = Tally::default();
     let mut rng = Rng(seed ^ (i as u64) << 32);
@@ -44,6 +47,9 @@ fn job(i: usize, seed: u64, alone: &mut Alone) -> Option<Tally> {
         faults::any_n(&mut t, &mut rng);
         faults::any_settings(&mut t, &mut rng);
         history::no_call_too_many(&mut t);
+        bottom::every_edge(&mut t);
+        rungs::each_rung(&mut t);
+        rungs::any_s(&mut t, &mut rng);
         logs::any_logs(&mut t, &mut rng);
         segments::all_ticks(&mut t);
         segments::fair_runs(&mut t, &mut rng);

@@ -1,6 +1,7 @@
 // the registers beside document 02's words in plain Rust, over an array of bool for each group: every address and value, lists of calls
 // that carry the map and that don't, each fault alone and with each other.
 use crate::faults::{any_bank, any_gate};
+use crate::layout::DECIMATION_HOPS;
 use crate::map_rows as map;
 use crate::numbers::{any_f32, any_f64, any_lengths, any_levels, same, Rng};
 use crate::tally::Tally;
@@ -188,7 +189,7 @@ fn faulty(t: &mut Tally, n: usize, call: usize, wrong: [usize; 2], rng: &mut Rng
         s.bank = any_bank(if n == 512 || rng.one_in(2) && n > 1 { n - 1 } else { n + 1 }, rng);
     }
     if is(1) {
-        s.bank.0[1] = 15;
+        s.bank.0[1] = DECIMATION_HOPS as u16;
     }
     if is(0) {
         s.bank.0.pop();

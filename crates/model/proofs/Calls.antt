@@ -10,6 +10,7 @@ use lib.ListN.{length, getD}
 use lib.Dec.{eqb, ltb}
 use lib.Ieee.{Float}
 use Rattle.laws.specs.Tests.{differ, first}
+use Rattle.model.specs.Layout.{decimationHops}
 use Rattle.model.specs.Bank.{FloorBank, Hop, bankStep}
 use Rattle.model.specs.Stores.{bankOf}
 use Rattle.model.specs.Refusals.{bankRefusal, garbled, updateRefusal}
@@ -371,7 +372,7 @@ bank-key : (b d : FloorBank) (hs : List Hop) → Good b → Good d → b .n ≡ 
     → (runBank b hs .n ≡ runBank d hs .n) × (runBank b hs .phase ≡ runBank d hs .phase)
 bank-key b d hs g q n p = (
   n-run hs b ∙ n ∙ sym (n-run hs d),
-  phase-run hs b (b .phase) (omega (arith, g .phase)) ∙ ap (λ (i : ℕ). (i + length hs) % 15) p ∙ sym (phase-run hs d (d .phase) (omega (arith, q .phase))),
+  phase-run hs b (b .phase) (omega (arith, g .phase)) ∙ ap (λ (i : ℕ). (i + length hs) % decimationHops) p ∙ sym (phase-run hs d (d .phase) (omega (arith, q .phase))),
 )
 
 twins-left : (s t : Stores) → Twins s t → (c d : Call) → arguments c ≡ arguments d → Twins (left s c) (left t d)

@@ -8,6 +8,7 @@ use native.Mathlib.Omega.{arith}
 use lib.ListN.{getD}
 use lib.Ieee.{Float}
 use Rattle.model.specs.Numbers.{f0}
+use Rattle.model.specs.Layout.{ringLen, decimationHops}
 use Rattle.model.specs.Bank.{FloorBank, freshBank}
 use Rattle.model.specs.Windows.{PowerLooks, stepLook}
 use Rattle.model.specs.Gate.{Gate, among, freshGate, sampleOf, gateStep}
@@ -35,11 +36,11 @@ module _ (k : Making) (p : Stores) (d : Made k p) where
   n-heard : (cs : List Call) → bankIn (leftBy (made k p) cs) .n ≡ k .n
   n-heard cs = ap (λ (b : FloorBank). b .n) (bank-heard cs) ∙ n-run (bankHops (made k p) cs) (freshBank (k .n)) ∙ (unfold freshBank in refl)
 
-  phase-heard : (cs : List Call) → bankIn (leftBy (made k p) cs) .phase ≡ bankUpdates (made k p) cs % 15
+  phase-heard : (cs : List Call) → bankIn (leftBy (made k p) cs) .phase ≡ bankUpdates (made k p) cs % decimationHops
   phase-heard cs =
       ap (λ (b : FloorBank). b .phase) (bank-heard cs)
       ∙ phase-run (bankHops (made k p) cs) (freshBank (k .n)) 0 (unfold freshBank in refl)
-      ∙ ap (λ (i : ℕ). i % 15) (zero-add (bankUpdates (made k p) cs))
+      ∙ ap (λ (i : ℕ). i % decimationHops) (zero-add (bankUpdates (made k p) cs))
 
   make-heard : (cs : List Call) → SameMake (bare (gateIn (leftBy (made k p) cs))) (bare (freshGate (settings k)))
   make-heard cs =
@@ -94,7 +95,7 @@ next-rises s t w r c d e z =
 -- ---- demand 3
 
 module _ (k : Making) (p q : Stores) (mp : Made k p) (mq : Made k q) (xs ys : List Call)
-    (eb : bankUpdates (made k p) xs % 15 ≡ bankUpdates (made k q) ys % 15)
+    (eb : bankUpdates (made k p) xs % decimationHops ≡ bankUpdates (made k q) ys % decimationHops)
     (eg : (m : ℕ) → among m (k .lengths) ≡ true → gateUpdates (made k p) xs % (2 * m) ≡ gateUpdates (made k q) ys % (2 * m))
     (fs gs : List Call) (e : map arguments fs ≡ map arguments gs)
   where
@@ -124,7 +125,7 @@ module _ (k : Making) (p q : Stores) (mp : Made k p) (mq : Made k q) (xs ys : Li
     bank-t : bankIn (leftBy t gs) ≡ runBank (bankIn t) (bankHops s fs)
     bank-t = bank-run gs t (sound-bank t (twins .other)) ∙ ap (runBank (bankIn t)) (sym (run .same-bank))
 
-    settled : Enough (k .n) (bankUpdates (made k p) xs) s fs → (i : ℕ) × (250 ≤ i) × Alike i (bankIn (leftBy s fs)) (bankIn (leftBy t gs))
+    settled : Enough (k .n) (bankUpdates (made k p) xs) s fs → (i : ℕ) × (ringLen ≤ i) × Alike i (bankIn (leftBy s fs)) (bankIn (leftBy t gs))
     settled h =
         let w = settles (bankHops s fs) (bankUpdates (made k p) xs) 0 (bankIn s) (bankIn t)
         (alike-start (bankIn s) (bankIn t) (twins .one .bank-good) (twins .other .bank-good) (twins .n) (twins .phase)) (phase-heard k p mp xs)

@@ -1,4 +1,8 @@
 pub mod Bins
+pub mod Ceilings
+pub mod Eighths
+pub mod RungValues
+pub mod Upward
 pub mod Channels
 pub mod Queue
 pub mod Rings

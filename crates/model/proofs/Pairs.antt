@@ -19,7 +19,7 @@ use Rattle.model.specs.Numbers.{f0}
 use Rattle.model.specs.Ring.{floorHeld}
 use Rattle.model.specs.Bank.{FloorBank}
 use Rattle.model.specs.Readings.{riseAt}
-use Rattle.model.specs.Ladder.{ladder, rung, rungValue, rootOf, tenTo}
+use Rattle.model.specs.Ladder.{ladder, rung, ceilHeld, rungValue, rootOf, tenTo}
 use Rattle.model.specs.Windows.{anyRises}
 use Rattle.model.specs.Gate.{Gate, Settings, freshGate, gateStep, levelOf, thresholdOf, differs, refresh, updateStep, holdAt, holdStep, earlyRise, windowRise, dropAt, riseBytes, dropBytes}
 use Rattle.model.specs.Anew.{windowRiseAnew, riseBytesAnew}
@@ -30,7 +30,7 @@ use Rattle.model.proofs.FreshGates.{bare}
 
 -- zeros of either sign are on one rung
 ladder-zero : (s : Bool) → ladder (fin s 0 (pos 0)) ≡ ladder (fin false 0 (pos 0))
-unfolding ladder rung rungValue rootOf tenTo floorHeld mul neg lt le eq isNan ofInt ofBits ofFields toUnsigned round odd units size span climb trailingZeros
+unfolding ladder rung ceilHeld rungValue rootOf tenTo floorHeld mul neg lt le eq isNan ofInt ofBits ofFields toUnsigned round odd units size span climb trailingZeros
 ladder-zero true = refl
 ladder-zero false = refl
 

@@ -12,6 +12,7 @@ use lib.Count.{trailingZeros}
 use Rattle.laws.specs.Tests.{allBelow, anyBelow}
 use Rattle.laws.proofs.Tests.{by-test}
 use Rattle.model.specs.Numbers.{f0}
+use Rattle.model.specs.Layout.{settlingHops}
 use Rattle.model.specs.Bank.{FloorBank, Hop, median, firstAt, ranked, freshBank}
 use Rattle.model.specs.Stores.{bankLen, bankFLen}
 use Rattle.model.specs.Refusals.{makeRefusal, garbled}
@@ -118,11 +119,11 @@ two-fresh =
       gate-n = ap (λ (g : Gate). g .n) (gate-made two lent (two-made .gate)) ∙ (unfold freshGate settingsOf two in refl);
     }
 
-enough : (i j : ℕ) → 3750 ≤ suc i → 1500 ≤ j → Enough 2 0 (made two lent) (calls (suc i) j)
+enough : (i j : ℕ) → settlingHops ≤ suc i → 1500 ≤ j → Enough 2 0 (made two lent) (calls (suc i) j)
 enough i j b g =
     let h = both-taken (suc i) j (made two lent) two-fresh in
     record { bank-updates = omega (arith, h .0); gate-updates = omega (arith, h .1); slow-hop = first-loud i j (made two lent) two-fresh }
 
 pub can-be-met : CanBeMet
 unfolding two
-can-be-met = (two, lent, calls (suc 3749) 1500, two-made, refl, enough 3749 1500 (omega arith) (omega arith))
+can-be-met = (two, lent, calls (suc settlingHops) 1500, two-made, refl, enough settlingHops 1500 (omega arith) (omega arith))

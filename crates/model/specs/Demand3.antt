@@ -9,7 +9,7 @@ use lib.ListN.{length}
 use lib.IntN.{ℤ}
 use lib.Ieee.{Float, le}
 use Rattle.laws.specs.Tests.{allBelow}
-use Rattle.model.specs.Numbers.{histMin}
+use Rattle.model.specs.Layout.{histMin, decimationHops, settlingHops}
 use Rattle.model.specs.Bank.{FloorBank, Hop, blocks, block, median}
 use Rattle.model.specs.Readings.{rawAt, effectiveAt, riseAt}
 use Rattle.model.specs.Stores.{bankOf}
@@ -118,7 +118,7 @@ gateUpdates s cs = length (gateHops s cs)
 
 -- ---- the slow hop
 
--- "a median of -140 dB or more in each block"
+-- "a median of -140 dB or more in each block"; since R-11 histMin or more
 unfoldable pub loud : ℕ → List Float → Bool
 loud n db = allBelow (blocks n) (λ i. le histMin (median (block i db)))
 
@@ -126,7 +126,7 @@ loud n db = allBelow (blocks n) (λ i. le histMin (median (block i db)))
 -- bank updates, 0 included": a is how many were accepted before these
 abbrev pub firstSlowLoud : ℕ → ℕ → List Hop → Bool
 firstSlowLoud n a [] = true
-firstSlowLoud n a (h ∷ hs) = cond (eqb (a % 15) 0) (loud n (h .db)) (firstSlowLoud n (suc a) hs)
+firstSlowLoud n a (h ∷ hs) = cond (eqb (a % decimationHops) 0) (loud n (h .db)) (firstSlowLoud n (suc a) hs)
 
 -- ---- a fresh set
 
@@ -173,10 +173,10 @@ pub record SameFloors (n : ℕ) (s t : Stores) : Type 0 where
 -- what is asked of a further list fs after s, a bank updates having been accepted before it
 pub record Enough (n a : ℕ) (s : Stores) (fs : List Call) : Type 0 where
   -- "if it has at least 3,750 accepted bank updates"
-  pub bank-updates : 3750 ≤ bankUpdates s fs
+  pub bank-updates : settlingHops ≤ bankUpdates s fs
   -- "and 1,500 accepted gate updates"
   pub gate-updates : 1500 ≤ gateUpdates s fs
-  -- "and its first accepted slow hop has a median of -140 dB or more in each block"
+  -- "and its first accepted slow hop has a median of -140 dB or more in each block"; since R-11 histMin or more
   pub slow-hop : firstSlowLoud n a (bankHops s fs) ≡ true
 
 -- the same from here on, of a set that is in s and one that is in t
@@ -198,7 +198,7 @@ Demand3 =
     -- "take any two lists of bank updates, gate updates and holds", and of writes to the map
     → (xs ys : List Call)
     -- "whose numbers of accepted bank updates are equal modulo 15"
-    → bankUpdates (made k p) xs % 15 ≡ bankUpdates (made k q) ys % 15
+    → bankUpdates (made k p) xs % decimationHops ≡ bankUpdates (made k q) ys % decimationHops
     -- "and of accepted gate updates modulo twice every window length"
     → ((m : ℕ) → among m (k .lengths) ≡ true → gateUpdates (made k p) xs % (2 * m) ≡ gateUpdates (made k q) ys % (2 * m))
     -- "whatever further list of these calls follows both": with the same arguments
