@@ -10,11 +10,14 @@ mod logs;
 #[allow(dead_code)]
 #[path = "../compare/layout.rs"]
 mod layout;
+#[path = "../compare/map_rows.rs"]
+mod map_rows;
 #[allow(dead_code)]
 #[path = "../compare/numbers.rs"]
 mod numbers;
 #[path = "../compare/plain_log.rs"]
 mod plain_log;
+mod registers;
 #[path = "../compare/wolfcloak.rs"]
 mod wolfcloak;
 
@@ -186,6 +189,8 @@ fn main() {
     silence_rows(512, 600);
     gate_rows(32, 12);
     gate_rows(512, 6);
+    registers::rows(32, 6);
+    registers::rows(512, 3);
     for n in [32, 512] {
         for kept in [0, 90, 100] {
             logs::rows(n, kept);
