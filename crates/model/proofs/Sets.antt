@@ -42,7 +42,7 @@ lent = record { bu = replicate (bankLen 2) 0; bf = replicate (bankFLen 2) f0; gu
 
 two-made : Made two lent
 unfolding two lent newBank newGate bankNew gateNew makeRefusal gateMakeRefusal goodLengths stored distinct
-two-made = record { bank = refl; gate = refl; map = can-have-map two lent refl (length-replicate (mapLong 2) 0) }
+two-made = record { bank = refl; gate = refl; map = can-have-map two lent refl (length-replicate {A = ℕ} (mapLong 2) 0) }
 
 -- ---- its hops, all zeros
 
