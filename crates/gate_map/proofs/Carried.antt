@@ -2,7 +2,7 @@
 use mathlib.Core.Path.{_≡_, refl, sym, ap, _∙_}
 use mathlib.Core.Bool.{_||_}
 use mathlib.Core.List.{List}
-use Prim.Native.Nat.{ℕ, zero, suc, _≤_}
+use Prim.Native.Nat.{ℕ, zero, suc}
 use native.Mathlib.Omega.{arith}
 use lib.ListN.{length, getD}
 use lib.Ieee.{Float}
@@ -16,7 +16,7 @@ use Rattle.model.specs.Map.{mapLong, marksSet}
 use Rattle.model.specs.MapCalls.{pairMapRefusal, updateMapRefusal, holdMapRefusal, mapAfter, gateUpdateMap, gateHoldMap}
 use Rattle.model.proofs.GoodBanks.{ready}
 use Rattle.model.proofs.GoodGates.{gate-ready}
-use Rattle.model.proofs.MapRefusals.{n-within, good-map, pair-map}
+use Rattle.model.proofs.MapRefusals.{good-map, pair-map}
 use Rattle.gate_cursors.specs.Paired.{Paired, Marked}
 use Rattle.gate_step.specs.Steps.{Holds}
 
@@ -24,18 +24,13 @@ module _ (bu : List ℕ) (bf : List Float) (gu : List ℕ) (gf : List Float) (m 
   -- a bank and a gate that are a pair, and a map for them
   pub record Beside : Type 0 where
     pub pair : Paired bu bf gu gf
-    pub low : 1 ≤ getD gu 0 0
-    pub high : getD gu 0 0 ≤ 512
     pub long : length m ≡ mapLong (getD gu 0 0)
 
   beside : pairMapRefusal bu bf gu gf m ≡ 0 → Beside
   beside e =
       let p = pair-map bu bf gu gf m e in
-      let n = n-within gu gf (p .1) in
       record {
         pair = record { bank = ready bu bf (p .0); gate = gate-ready gu gf (p .1); same = p .3 };
-        low = n .0;
-        high = n .1;
         long = good-map (getD gu 0 0) m (p .2) .0;
       }
 
@@ -70,11 +65,11 @@ module _ (bu : List ℕ) (bf : List Float) (gu : List ℕ) (gf : List Float) (m 
     unfolding gateHoldMap
     hold-refused x e z = unchanged x z ∙ ap outcome e
 
-    pub held : (n : ℕ) (f′ : List Float) (m′ rise′ fall′ : List ℕ) → refusal ≡ 0 → n ≡ getD gu 0 0 → f′ ≡ gateF kept
-        → Marked kept (bankOf bu bf) rise′ fall′ → m′ ≡ marksSet n m rise′ fall′ → (0, f′, m′, rise′, fall′) ≡ gateHoldMap bu bf gu gf m rise fall
+    pub held : (f′ : List Float) (m′ rise′ fall′ : List ℕ) → refusal ≡ 0 → f′ ≡ gateF kept → Marked kept (bankOf bu bf) rise′ fall′
+        → m′ ≡ marksSet (getD gu 0 0) m rise′ fall′ → (0, f′, m′, rise′, fall′) ≡ gateHoldMap bu bf gu gf m rise fall
     unfolding gateHoldMap
-    held n f′ m′ rise′ fall′ e w s k q =
-        ap (λ (x : List ℕ). (0, f′, x, rise′, fall′)) (q ∙ ap (λ (j : ℕ). marksSet j m rise′ fall′) w)
+    held f′ m′ rise′ fall′ e s k q =
+        ap (λ (x : List ℕ). (0, f′, x, rise′, fall′)) q
         ∙ (λ i. (0, s i, marksSet (getD gu 0 0) m (k .rises i) (k .drops i), k .rises i, k .drops i))
         ∙ ap outcome (sym e)
 

@@ -75,12 +75,7 @@ pub extern "C" fn wolfcloak_map_write(
 }
 
 #[no_mangle]
-pub extern "C" fn wolfcloak_map_wire(
-    gate: &[u16],
-    gate_f: &[f64],
-    map: &[u8],
-    up: &mut u8,
-) -> u16
+pub extern "C" fn wolfcloak_map_wire(gate: &[u16], gate_f: &[f64], map: &[u8], up: &mut u8) -> u16
     ensures { λ r. ⌜ (r, now (up .exit)) ≡ mapWire (now (gate .entry)) (now («gate_f» .entry)) (now (map .entry)) (now (up .entry)) ⌝ }
 {
     registers::map_wire(gate, gate_f, map, up)

@@ -1,14 +1,12 @@
 -- `gate_map::gate_hold_map` meets its contract: the gate that it leaves is the one that it judges, and the flags are of its marks. Assumes nothing.
-use mathlib.Core.Path.{_≡_, refl, sym, ap, _∙_}
+use mathlib.Core.Path.{_≡_, sym, _∙_}
 use mathlib.Core.List.{List}
 use Prim.Native.Nat.{ℕ}
-use native.Mathlib.Omega.{arith}
 use lib.ListN.{length, getD}
 use lib.Ieee.{Float}
 use Rattle.model.specs.Stores.{bankOf}
 use Rattle.model.specs.Gate.{holdStep}
 use Rattle.model.specs.GateStores.{gateOf}
-use Rattle.model.specs.Map.{mapLong}
 use Rattle.model.specs.MapCalls.{holdMapRefusal}
 use Rattle.gate_step.specs.Steps.{Holds}
 use Rattle.gate.proofs.Calls.{left-paired, left-marked, hold-good, hold-n, hold-holds}
@@ -64,26 +62,10 @@ returns c = hold-refused _ _ _ _ _ _ _ _ (c .before .hold-map-refusal .ensures) 
 refresh-started-requires : tie.Need-refresh-started-requires
 refresh-started-requires c κs = asked (c .before) .0 .pair
 
-judge-requires : tie.Need-judge-requires
-judge-requires c κs = let r = c .before .before .before .before .before in
+flag-marks-requires : tie.Need-flag-marks-requires
+flag-marks-requires c κs = let r = c .before .before .before .before .before .before in
     let e = r .before .before in
-    (left-paired _ _ _ _ (asked e .0 .pair) _ (hold-good _ _ _ _ (asked e .0 .pair)) (hold-n _ _ _ _ (asked e .0 .pair)) _ _ (holds r), asked e .1, asked e .2)
-
--- the marks are as long as they were
-rise-long : (j : tie.After-judge) → length (j .judge .last .1 .1 .1 .1 .0) ≡ getD (GU (j .before .before .before .before .before .before .before .before)) 0 0
-rise-long j = let e = j .before .before .before .before .before .before .before .before in
-    j .judge .kept .1 .1 .1 .1 .0 ∙ asked e .1
-
-set-marks-requires : tie.Need-set-marks-requires
-set-marks-requires c κs = let j = c .before .before .before .before .before .before in
-    let e = j .before .before .before .before .before .before .before .before in
-    let b = asked e .0 in (
-      omega (arith, rise-long j, b .low),
-      omega (arith, rise-long j, b .high),
-      b .long ∙ ap mapLong (sym (rise-long j)),
-      refl,
-      j .judge .kept .1 .1 .1 .1 .1 .0 ∙ asked e .2 ∙ sym (rise-long j),
-    )
+    (left-paired _ _ _ _ (asked e .0 .pair) _ (hold-good _ _ _ _ (asked e .0 .pair)) (hold-n _ _ _ _ (asked e .0 .pair)) _ _ (holds r), asked e .0 .long, asked e .1, asked e .2)
 
 same-length-2 : tie.Need-same-length-2
 same-length-2 c = search needs
@@ -97,14 +79,16 @@ same-length-4 c = search needs
 same-length-5 : tie.Need-same-length-5
 same-length-5 c = search needs
 
+same-length-6 : tie.Need-same-length-6
+same-length-6 c = search needs
+
 returns-2 : tie.Need-returns-2
-returns-2 c = let k = c .before .before in
-    let j = k .before .before .before .before .before .before .before in
-    let r = j .before .before .before .before .before .before in
+returns-2 c = let k = c .before .before .before .before .before .before in
+    let r = k .before .before .before .before .before .before .before in
     let e = r .before .before in
-    held _ _ _ _ _ _ _ _ _ _ _ _ (none e) (rise-long j) (r .refresh-started .ensures)
-    (left-marked _ _ _ _ (asked e .0 .pair) _ (hold-good _ _ _ _ (asked e .0 .pair)) (hold-n _ _ _ _ (asked e .0 .pair)) _ _ (holds r) _ _ _ (j .judge .ensures))
-    (k .set-marks .ensures)
+    held _ _ _ _ _ _ _ _ _ _ _ (none e) (r .refresh-started .ensures)
+    (left-marked _ _ _ _ (asked e .0 .pair) _ (hold-good _ _ _ _ (asked e .0 .pair)) (hold-n _ _ _ _ (asked e .0 .pair)) _ _ (holds r) _ _ _ (k .flag-marks .ensures .0))
+    (k .flag-marks .ensures .1)
 
 pub gate-hold-map-spec : {M : Type 1} → statement M
 gate-hold-map-spec =
@@ -112,12 +96,12 @@ gate-hold-map-spec =
     (tie.spec
     hold-map-refusal-requires
     same-length
+    same-length-2
     returns
     refresh-started-requires
-    judge-requires
-    set-marks-requires
-    same-length-2
+    flag-marks-requires
     same-length-3
     same-length-4
     same-length-5
+    same-length-6
     returns-2)

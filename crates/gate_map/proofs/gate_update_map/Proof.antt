@@ -1,8 +1,7 @@
 -- `gate_map::gate_update_map` meets its contract: the gate that it leaves is the one that it judges, and the flags are of its marks. Assumes nothing.
-use mathlib.Core.Path.{_≡_, refl, sym, ap, _∙_}
+use mathlib.Core.Path.{_≡_, sym, ap, _∙_}
 use mathlib.Core.List.{List}
 use Prim.Native.Nat.{ℕ}
-use native.Mathlib.Omega.{arith}
 use lib.ListN.{length, getD}
 use lib.Ieee.{Float}
 use Rattle.model.specs.Stores.{bankOf}
@@ -92,36 +91,28 @@ refresh-requires c κs = let w = c .before .before .before .before .before .befo
     left-paired (BU e) (BF e) (GU e) (GF e) p (gateStep (gateOf (GU e) (GF e)) (h .db) (h .power)) (hop-good (BU e) (BF e) (GU e) (GF e) p (h .db) (h .power))
     (hop-n (BU e) (BF e) (GU e) (GF e) p (h .db) (h .power)) (w .step .last .0) (w .step .last .1 .0) (w .step .ensures)
 
-judge-requires : tie.Need-judge-requires
-judge-requires c κs = let r = c .before .before .before .before .before .before in
+-- its n is the gate's as lent
+left-long : (r : tie.After-refresh) → getD (at-step r .step .last .0) 0 0 ≡ getD (GU (at-else r)) 0 0
+left-long r = let e = at-else r in
+    let h = hop (e .before) in
+    let p = asked e .0 .pair in
+    left-n (BU e) (BF e) (GU e) (GF e) p (updateStep (gateOf (GU e) (GF e)) (bankOf (BU e) (BF e)) (h .db) (h .power))
+    (update-good (BU e) (BF e) (GU e) (GF e) p (h .db) (h .power)) (update-n (BU e) (BF e) (GU e) (GF e) p (h .db) (h .power)) (at-step r .step .last .0)
+    (r .refresh .last .1 .1 .1 .0) (holds r)
+
+flag-marks-requires : tie.Need-flag-marks-requires
+flag-marks-requires c κs = let r = c .before .before .before .before .before .before .before in
     let e = at-else r in
     let h = hop (e .before) in
     let p = asked e .0 .pair in
     let H = updateStep (gateOf (GU e) (GF e)) (bankOf (BU e) (BF e)) (h .db) (h .power) in
     let good = update-good (BU e) (BF e) (GU e) (GF e) p (h .db) (h .power) in
     let same = update-n (BU e) (BF e) (GU e) (GF e) p (h .db) (h .power) in
-    let n = left-n (BU e) (BF e) (GU e) (GF e) p H good same (at-step r .step .last .0) (r .refresh .last .1 .1 .1 .0) (holds r) in (
+    let n = sym (left-long r) in (
       left-paired (BU e) (BF e) (GU e) (GF e) p H good same (at-step r .step .last .0) (r .refresh .last .1 .1 .1 .0) (holds r),
-      asked e .3 ∙ sym n,
-      asked e .4 ∙ sym n,
-    )
-
--- the marks are as long as they were
-abbrev at-refresh : tie.After-judge → tie.After-refresh
-at-refresh j = j .before .before .before .before .before .before .before
-
-rise-long : (j : tie.After-judge) → length (j .judge .last .1 .1 .1 .1 .0) ≡ getD (GU (at-else (at-refresh j))) 0 0
-rise-long j = j .judge .kept .1 .1 .1 .1 .0 ∙ asked (at-else (at-refresh j)) .3
-
-set-marks-requires : tie.Need-set-marks-requires
-set-marks-requires c κs = let j = c .before .before .before .before .before .before .before in
-    let e = at-else (at-refresh j) in
-    let b = asked e .0 in (
-      omega (arith, rise-long j, b .low),
-      omega (arith, rise-long j, b .high),
-      b .long ∙ ap mapLong (sym (rise-long j)),
-      refl,
-      j .judge .kept .1 .1 .1 .1 .1 .0 ∙ asked e .4 ∙ sym (rise-long j),
+      asked e .0 .long ∙ ap mapLong n,
+      asked e .3 ∙ n,
+      asked e .4 ∙ n,
     )
 
 same-length-3 : tie.Need-same-length-3
@@ -143,18 +134,17 @@ same-length-8 : tie.Need-same-length-8
 same-length-8 c = search needs
 
 returns-2 : tie.Need-returns-2
-returns-2 c = let k = c .before .before in
-    let j = k .before .before .before .before .before .before .before .before in
-    let r = at-refresh j in
+returns-2 c = let k = c .before .before .before .before .before .before in
+    let r = k .before .before .before .before .before .before .before .before in
     let e = at-else r in
     let h = hop (e .before) in
     let p = asked e .0 .pair in
     updated (BU e) (BF e) (GU e) (GF e) (MB e) h (start (e .before) .args .rise .now) (start (e .before) .args .drop .now) _ (at-step r .step .last .0)
-    (r .refresh .last .1 .1 .1 .0) _ _ _ (none e) (rise-long j) (holds r)
+    (r .refresh .last .1 .1 .1 .0) _ _ _ (none e) (left-long r) (holds r)
     (left-marked (BU e) (BF e) (GU e) (GF e) p (updateStep (gateOf (GU e) (GF e)) (bankOf (BU e) (BF e)) (h .db) (h .power))
     (update-good (BU e) (BF e) (GU e) (GF e) p (h .db) (h .power)) (update-n (BU e) (BF e) (GU e) (GF e) p (h .db) (h .power)) (at-step r .step .last .0)
-    (r .refresh .last .1 .1 .1 .0) (holds r) (bankOf (BU e) (BF e)) _ _ (j .judge .ensures))
-    (k .set-marks .ensures)
+    (r .refresh .last .1 .1 .1 .0) (holds r) (bankOf (BU e) (BF e)) _ _ (k .flag-marks .ensures .0))
+    (k .flag-marks .ensures .1)
 
 pub gate-update-map-spec : {M : Type 1} → statement M
 gate-update-map-spec =
@@ -167,8 +157,7 @@ gate-update-map-spec =
     returns
     step-requires
     refresh-requires
-    judge-requires
-    set-marks-requires
+    flag-marks-requires
     same-length-4
     same-length-5
     same-length-6

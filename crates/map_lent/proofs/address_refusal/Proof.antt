@@ -32,10 +32,9 @@ wide-requires : tie.Need-wide-requires
 wide-requires c κs = search needs
 
 address-refusal-requires : tie.Need-address-refusal-requires
-address-refusal-requires c κs = let w = c .before in
-    let e = w .before .before in
+address-refusal-requires c κs = let e = c .before .before in
     let n = n-within (start e .args .gate .now) (start e .args .gate-f .now) (none e) in
-    (omega (arith, n .0, w .wide .ensures), omega (arith, n .1, w .wide .ensures))
+    (omega (arith, n .0, c .wide .ensures), omega (arith, n .1, c .wide .ensures))
 
 returns-2 : tie.Need-returns-2
 returns-2 c = let w = c .before in

@@ -44,7 +44,7 @@ shared-slice-read-if3 c = let e = c .before .before .before in
 shared-slice-read-if3-2 : tie.Need-shared-slice-read-if3-2
 shared-slice-read-if3-2 c = let d = c .before .before in
     let s = start (d .before .before) in
-    omega (arith, thirty (s .args .gate .now) (s .args .gate-f .now) (lent-gate (s .args .gate .now) (s .args .gate-f .now) (s .args .map .now) _ (no-map d)))
+    omega (arith, thirty (s .args .gate .now) (s .args .gate-f .now) (lent-gate (s .args .gate .now) (s .args .gate-f .now) (s .args .map .now) (λ n. mapRefusal n (s .args .map .now)) (no-map d)))
 
 returns-3 : tie.Need-returns-3
 unfolding pairMapRefusal

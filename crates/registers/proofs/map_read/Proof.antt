@@ -9,7 +9,7 @@ use Rattle.registers.proofs.map_read.Statement.{statement}
 use Rattle.registers.proofs.map_read.Tie as tie
 
 abbrev start : tie.After-address-refusal → tie.Start
-start d = d .before .before .before .before .before
+start d = d .before .before .before .before
 
 none : (e : tie.Else1) → let s = start (e .before) in
     afterGate (s .args .gate .now) (s .args .gate-f .now) (λ n. addressRefusal n (s .args .map .now) (s .args .address)) ≡ 0

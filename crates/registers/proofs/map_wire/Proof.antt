@@ -13,7 +13,7 @@ use Rattle.registers.proofs.map_wire.Statement.{statement}
 use Rattle.registers.proofs.map_wire.Tie as tie
 
 abbrev start : tie.After-map-refusal → tie.Start
-start d = d .before .before .before .before .before
+start d = d .before .before .before .before
 
 none : (e : tie.Else1) → let s = start (e .before) in
     afterGate (s .args .gate .now) (s .args .gate-f .now) (λ n. mapRefusal n (s .args .map .now)) ≡ 0
@@ -32,20 +32,19 @@ returns c = let d = c .before in
 shared-slice-read-wide : tie.Need-shared-slice-read-wide
 shared-slice-read-wide c = let e = c .before in
     let s = start (e .before) in
-    omega (arith, thirty (s .args .gate .now) (s .args .gate-f .now) (lent-gate (s .args .gate .now) (s .args .gate-f .now) (s .args .map .now) _ (none e)))
+    omega (arith, thirty (s .args .gate .now) (s .args .gate-f .now) (lent-gate (s .args .gate .now) (s .args .gate-f .now) (s .args .map .now) (λ n. mapRefusal n (s .args .map .now)) (none e)))
 
 wide-requires : tie.Need-wide-requires
 wide-requires c κs = search needs
 
 wire-requires : tie.Need-wire-requires
-wire-requires c κs = let w = c .before in
-    let e = w .before .before in
+wire-requires c κs = let e = c .before .before in
     let s = start (e .before) in
     let g = lent-map (s .args .gate .now) (s .args .gate-f .now) (s .args .map .now) (none e) in (
-      omega (arith, g .0, w .wide .ensures),
-      omega (arith, g .1, w .wide .ensures),
-      g .2 ∙ ap mapLong (sym (w .wide .ensures)),
-      ap (λ (n : ℕ). soundMap n (s .args .map .now)) (w .wide .ensures) ∙ g .3,
+      omega (arith, g .0, c .wide .ensures),
+      omega (arith, g .1, c .wide .ensures),
+      g .2 ∙ ap mapLong (sym (c .wide .ensures)),
+      ap (λ (n : ℕ). soundMap n (s .args .map .now)) (c .wide .ensures) ∙ g .3,
     )
 
 returns-2 : tie.Need-returns-2

@@ -12,7 +12,7 @@ use Rattle.registers.proofs.map_write.Statement.{statement}
 use Rattle.registers.proofs.map_write.Tie as tie
 
 abbrev start : tie.After-address-refusal → tie.Start
-start d = d .before .before .before .before .before .before
+start d = d .before .before .before .before .before
 
 none : (e : tie.Else1) → let s = start (e .before) in
     afterGate (s .args .gate .now) (s .args .gate-f .now) (λ n. addressRefusal n (s .args .map .now) (s .args .address)) ≡ 0
@@ -34,20 +34,19 @@ returns c = let d = c .before in
 shared-slice-read-wide : tie.Need-shared-slice-read-wide
 shared-slice-read-wide c = let e = c .before .before in
     let s = start (e .before) in
-    omega (arith, thirty (s .args .gate .now) (s .args .gate-f .now) (lent-gate (s .args .gate .now) (s .args .gate-f .now) (s .args .map .now) _ (none e)))
+    omega (arith, thirty (s .args .gate .now) (s .args .gate-f .now) (lent-gate (s .args .gate .now) (s .args .gate-f .now) (s .args .map .now) (λ n. addressRefusal n (s .args .map .now) (s .args .address)) (none e)))
 
 wide-requires : tie.Need-wide-requires
 wide-requires c κs = search needs
 
 write-requires : tie.Need-write-requires
-write-requires c κs = let w = c .before in
-    let e = w .before .before .before in
+write-requires c κs = let e = c .before .before .before in
     let s = start (e .before) in
     let g = lent-address (s .args .gate .now) (s .args .gate-f .now) (s .args .map .now) (s .args .address) (none e) in (
-      omega (arith, g .0, w .wide .ensures),
-      omega (arith, g .1, w .wide .ensures),
-      g .2 ∙ ap mapLong (sym (w .wide .ensures)),
-      omega (arith, g .3, ap mapLong (w .wide .ensures)),
+      omega (arith, g .0, c .wide .ensures),
+      omega (arith, g .1, c .wide .ensures),
+      g .2 ∙ ap mapLong (sym (c .wide .ensures)),
+      omega (arith, g .3, ap mapLong (c .wide .ensures)),
     )
 
 same-length-2 : tie.Need-same-length-2
@@ -56,7 +55,7 @@ same-length-2 c = search needs
 returns-2 : tie.Need-returns-2
 unfolding mapWrite
 returns-2 c = let k = c .before .before in
-    let w = k .before .before in
+    let w = k .before in
     let e = w .before .before .before in
     let s = start (e .before) in
     accepted (afterGate (s .args .gate .now) (s .args .gate-f .now) (λ n. addressRefusal n (s .args .map .now) (s .args .address))) (k .write .last .0)
