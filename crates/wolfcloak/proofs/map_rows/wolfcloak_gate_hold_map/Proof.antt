@@ -15,8 +15,11 @@ same-length-2 c = search needs
 same-length-3 : tie.Need-same-length-3
 same-length-3 c = search needs
 
+same-length-4 : tie.Need-same-length-4
+same-length-4 c = search needs
+
 returns : tie.Need-returns
-returns c = c .before .before .before .before .before .before .gate-hold-map .ensures
+returns c = c .before .before .before .before .before .before .before .before .gate-hold-map .ensures
 
 pub wolfcloak-gate-hold-map-spec : {M : Type 1} → statement M
-wolfcloak-gate-hold-map-spec = tie.close (tie.spec gate-hold-map-requires same-length same-length-2 same-length-3 returns)
+wolfcloak-gate-hold-map-spec = tie.close (tie.spec gate-hold-map-requires same-length same-length-2 same-length-3 same-length-4 returns)
