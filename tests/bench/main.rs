@@ -4,14 +4,15 @@ mod channelizer;
 #[allow(dead_code)]
 #[path = "../compare/build/floor.rs"]
 mod floor;
-#[path = "../compare/log_rows.rs"]
-mod log_rows;
-mod logs;
 #[allow(dead_code)]
 #[path = "../compare/layout.rs"]
 mod layout;
 #[path = "../compare/map_rows.rs"]
 mod map_rows;
+#[allow(dead_code)]
+#[path = "../compare/log_rows.rs"]
+mod log_rows;
+mod logs;
 #[allow(dead_code)]
 #[path = "../compare/numbers.rs"]
 mod numbers;
