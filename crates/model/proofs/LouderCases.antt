@@ -33,7 +33,7 @@ single : Making
 single = record { n = 1; gate-n = 0; on = pos 0; off = pos 0; early = pos 0; lengths = [] }
 
 lent : Lent
-lent = record { stores = record { bu = replicate (bankLen 1) 0; bf = replicate (bankFLen 1) f0; gu = []; gf = []; wu = []; wf = [] }; W = 0 }
+lent = record { stores = record { bu = replicate (bankLen 1) 0; bf = replicate (bankFLen 1) f0; gu = []; gf = []; wu = []; wf = []; map = [] }; W = 0 }
 
 single-fresh : newBank single lent .0 ≡ 0
 unfolding single lent newBank bankNew makeRefusal

@@ -1,30 +1,36 @@
--- What making leaves where it is not refused: the stores of a fresh bank, a fresh gate and a fresh store of R-6, all sound. Assumes nothing.
-use mathlib.Core.Path.{_≡_, refl, sym, ap, _∙_, subst}
+-- What making leaves where it is not refused: the stores of a fresh bank, a fresh gate, a fresh store of R-6 and a fresh map of R-12, all sound.
+-- Assumes nothing.
+use mathlib.Core.Path.{_≡_, refl, sym, ap, ap₂, _∙_, subst}
 use mathlib.Core.Bool.{true, not, _&&_, _||_}
 use mathlib.Core.Logic.{_⊎_, inl, inr}
 use mathlib.Core.List.{List}
 use Prim.Native.Nat.{ℕ, zero, suc, _≤_}
 use native.Mathlib.Omega.{arith}
-use lib.ListN.{length}
+use lib.ListN.{length, getD}
 use lib.IntN.{ℤ, pos, negsuc}
 use lib.Ieee.{Float}
 use borrow.Author.Tests.{not-false, leb-true, eqb-true}
 use Rattle.laws.specs.Tests.{within}
-use Rattle.laws.proofs.Tests.{by-test, passed, within-of, and-l, and-r, clash}
+use Rattle.laws.proofs.Tests.{by-test, passed, within-of, and-l, and-r, clash, goes-on}
 use Rattle.model.specs.Bank.{FloorBank, freshBank}
 use Rattle.model.specs.Stores.{bankU, bankF}
-use Rattle.model.specs.Gate.{Settings, freshGate}
+use Rattle.model.specs.Gate.{Gate, Settings, freshGate}
 use Rattle.model.specs.GateStores.{gateU, gateF}
-use Rattle.model.specs.GateCalls.{goodLengths, stored, goodLevel, absent, gateMakeRefusal, settingsOf, gateLeaves, gateNew}
+use Rattle.model.specs.GateCalls.{goodLengths, stored, goodLevel, absent, gateMakeRefusal, gateRefusal, settingsOf, gateLeaves, gateNew}
 use Rattle.model.specs.GoodBank.{Good}
 use Rattle.model.proofs.GoodBanks.{bank-back, passes}
 use Rattle.model.proofs.FreshBanks.{good-fresh}
 use Rattle.model.specs.GoodGate.{GoodGate}
-use Rattle.model.proofs.GoodGates.{gate-back, gate-passes}
+use Rattle.model.proofs.GoodGates.{gate-back, gate-passes, n-of}
 use Rattle.model.proofs.FreshGates.{good-fresh-gate}
 use Rattle.model.proofs.Reach.{made-fresh}
 use Rattle.model.proofs.SettledFloors.{runBank}
-use Rattle.model.specs.Demand3.{Call, Lent, leftBy, bankHops, bankIn, Making, newBank, newGate, newWorst, made, Made}
+use Rattle.model.specs.Map.{mapLong, freshMap}
+use Rattle.model.specs.MapCalls.{mapMakeRefusal, mapRefusal, afterGate, unlessRefused, mapNew}
+use Rattle.model.proofs.MapRefusals.{is-map, can-be-made}
+use Rattle.model.proofs.MapFlags.{long-fresh, fresh-sound}
+use Rattle.model.proofs.MapReach.{refusal-is}
+use Rattle.model.specs.Demand3.{Call, Lent, leftBy, bankHops, bankIn, Making, newBank, newGate, newWorst, newMap, made, Made}
 use Rattle.model.specs.Sets.{gateIn, worstIn, Sound}
 use Rattle.model.specs.Worst.{Worst, freshWorst, worstU, worstF}
 use Rattle.model.specs.WorstCalls.{worstMakeRefusal, worstLeaves, worstNew}
@@ -130,13 +136,13 @@ module _ (k : Making) (p : Lent) (e : newWorst k p .0 ≡ 0) where
         worst-good = subst GoodWorst (sym store-made) good-worst;
       }
 
--- ---- a fresh set
+-- ---- a fresh gate
 
-module _ (k : Making) (p : Lent) (d : Made k p) where
+module _ (k : Making) (p : Lent) (e : newGate k p .0 ≡ 0) where
   refusal : gateMakeRefusal (length (p .stores .gu)) (length (p .stores .gf)) (k .gate-n) (k .on) (k .off) (k .early) (k .lengths) ≡ 0
   refusal =
       sym (gate-answer (gateMakeRefusal (length (p .stores .gu)) (length (p .stores .gf)) (k .gate-n) (k .on) (k .off) (k .early) (k .lengths)) (freshGate (settings k)) (p .stores .gu) (p .stores .gf))
-      ∙ (unfold newGate gateNew in d .gate)
+      ∙ (unfold newGate gateNew in e)
 
   fits : Taken k
   fits = taken k (length (p .stores .gu)) (length (p .stores .gf)) refusal
@@ -157,6 +163,38 @@ module _ (k : Making) (p : Lent) (d : Made k p) where
   pub gate-made : gateIn (made k p) ≡ freshGate (settings k)
   gate-made = rw (gate-stores .0, gate-stores .1) (gate-back (freshGate (settings k)) good-gate)
 
+  gate-taken : gateRefusal (newGate k p .1) (newGate k p .2) ≡ 0
+  gate-taken = rw (gate-stores .0, gate-stores .1) (gate-passes (freshGate (settings k)) good-gate)
+
+  pub n-made : getD (newGate k p .1) 0 0 ≡ k .gate-n
+  n-made = sym (n-of (newGate k p .1) (newGate k p .2)) ∙ ap (λ (g : Gate). g .n) gate-made ∙ (unfold freshGate settingsOf in refl)
+
+  -- R-12: the map beside it, of lent bytes that are as many as the gate's n asks for
+  map-refusal : ℕ
+  map-refusal = afterGate (newGate k p .1) (newGate k p .2) (λ n. mapMakeRefusal n (p .stores .map))
+
+  pub can-have-map : length (p .stores .map) ≡ mapLong (k .gate-n) → newMap k p .0 ≡ 0
+  unfolding newMap mapNew map-refusal
+  can-have-map l =
+      refusal-is map-refusal (freshMap (getD (newGate k p .1) 0 0)) (p .stores .map)
+      ∙ sym
+      (goes-on (gateRefusal (newGate k p .1) (newGate k p .2)) _ 0 gate-taken
+      (can-be-made (getD (newGate k p .1) 0 0) (p .stores .map) (l ∙ ap mapLong (sym n-made))))
+
+  pub map-made : newMap k p .0 ≡ 0 → newMap k p .1 ≡ freshMap (k .gate-n)
+  unfolding newMap mapNew map-refusal
+  map-made z =
+      let f = freshMap (getD (newGate k p .1) 0 0) in
+      ap (λ (x : ℕ). unlessRefused x f (p .stores .map) .1) (sym (refusal-is map-refusal f (p .stores .map)) ∙ z) ∙ ap freshMap n-made
+
+-- ---- a fresh set
+
+module _ (k : Making) (p : Lent) (d : Made k p) where
+  map-passes : mapRefusal (getD (made k p .gu) 0 0) (made k p .map) ≡ 0
+  map-passes =
+      ap₂ mapRefusal (n-made k p (d .gate)) (map-made k p (d .gate) (d .map))
+      ∙ sym (is-map (k .gate-n) (freshMap (k .gate-n)) (long-fresh (k .gate-n)) (fresh-sound (k .gate-n)))
+
   pub sound-made : Sound (made k p)
   sound-made =
       let b = sound-bank-made k p (d .bank) in
@@ -164,11 +202,12 @@ module _ (k : Making) (p : Lent) (d : Made k p) where
       record {
         bank-passes = b .bank-passes;
         bank-good = b .bank-good;
-        gate-passes = rw (gate-stores .0, gate-stores .1) (gate-passes (freshGate (settings k)) good-gate);
-        gate-good = subst GoodGate (sym gate-made) good-gate;
+        gate-passes = gate-taken k p (d .gate);
+        gate-good = subst GoodGate (sym (gate-made k p (d .gate))) (good-gate k p (d .gate));
         worst-passes = w .worst-passes;
         worst-good = w .worst-good;
         worst-n =
             ap (λ (w : Worst). w .n) (store-made k p (d .worst))
             ∙ (unfold freshWorst freshBank in sym (ap (λ (b : FloorBank). b .n) (bank-made k p (d .bank))));
+        map-passes = map-passes;
       }

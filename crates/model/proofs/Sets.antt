@@ -4,7 +4,7 @@ use mathlib.Core.List.{List, [], _∷_, _++_}
 use mathlib.Core.Bool.{true, false}
 use Prim.Native.Nat.{ℕ, zero, suc, _≤_}
 use native.Mathlib.Omega.{arith}
-use lib.ListN.{length, replicate}
+use lib.ListN.{length, replicate, length-replicate}
 use lib.Dec.{eqb}
 use lib.IntN.{pos}
 use lib.Ieee.{add, sub, sum, neg, round, odd, units, size, span, climb, ofFields, mul, lt, le, isNan, ofBits}
@@ -22,17 +22,18 @@ use Rattle.model.specs.GateCalls.{GateHop, goodLengths, stored, floatsFo
 use Rattle.model.specs.Demand3.{Call, bank, gate, Stores, Lent, answer, left, arguments, bankHop, gateHop, bankHops, gateHops, loud, firstSlowLoud, bankIn, Making, newBank, newGate, newWorst, made, Made, Enough}
 use Rattle.model.specs.Worst.{worstFLen}
 use Rattle.model.specs.WorstCalls.{worstMakeRefusal, worstNew}
+use Rattle.model.specs.Map.{mapLong}
 use Rattle.model.specs.Sets.{gateIn, Sound, StaySound, CanBeMet}
 use Rattle.model.proofs.FreshGates.{bare}
 use Rattle.model.proofs.SettledFloors.{n-run}
 use Rattle.model.proofs.Rises.{make-run}
 use Rattle.model.proofs.Calls.{left-is, sound-left, bare-left, sound-run, refuse, answer-is}
-use Rattle.model.proofs.Made.{sound-made, bank-made, gate-made}
+use Rattle.model.proofs.Made.{sound-made, bank-made, gate-made, can-have-map}
 
 pub stay-sound : StaySound
 stay-sound k p d cs = sound-run cs (made k p) (sound-made k p d)
 
--- ---- two channels, one length of 1, levels 0, early absent; W of 3, and each bank update carries the store
+-- ---- two channels, one length of 1, levels 0, early absent; W of 3; each bank update carries the store of R-6, each gate update the map of R-12
 
 two : Making
 two = record { n = 2; gate-n = 2; on = pos 0; off = pos 0; early = pos 65535; lengths = 1 ∷ [] }
@@ -47,6 +48,7 @@ lentStores =
       gf = replicate (floatsFor 2 (1 ∷ [])) f0;
       wu = replicate 4 0;
       wf = replicate (worstFLen 2 3) f0;
+      map = replicate (mapLong 2) 0;
     }
 
 lent : Lent
@@ -54,7 +56,7 @@ lent = record { stores = lentStores; W = 3 }
 
 two-made : Made two lent
 unfolding two lentStores lent newBank newGate newWorst bankNew gateNew worstNew makeRefusal gateMakeRefusal worstMakeRefusal goodLengths stored distinct
-two-made = record { bank = refl; gate = refl; worst = refl }
+two-made = record { bank = refl; gate = refl; worst = refl; map = can-have-map two lent refl (length-replicate {A = ℕ} (mapLong 2) 0) }
 
 -- ---- its hops, all zeros
 
@@ -68,7 +70,7 @@ abbrev bankCall : Call
 bankCall = bank true zeros
 
 abbrev gateCall : Call
-gateCall = gate gateZeros (0 ∷ 0 ∷ []) (0 ∷ 0 ∷ [])
+gateCall = gate true gateZeros (0 ∷ 0 ∷ []) (0 ∷ 0 ∷ [])
 
 abbrev calls : ℕ → ℕ → List Call
 calls i j = replicate i bankCall ++ replicate j gateCall
@@ -128,7 +130,7 @@ two-fresh =
     record {
       sound = sound-made two lent two-made;
       n = ap (λ (b : FloorBank). b .n) (bank-made two lent (two-made .bank)) ∙ (unfold freshBank two in refl);
-      gate-n = ap (λ (g : Gate). g .n) (gate-made two lent two-made) ∙ (unfold freshGate settingsOf two in refl);
+      gate-n = ap (λ (g : Gate). g .n) (gate-made two lent (two-made .gate)) ∙ (unfold freshGate settingsOf two in refl);
     }
 
 enough : (i j : ℕ) → settlingHops ≤ suc i → 1500 ≤ j → Enough 2 0 (made two lent) (calls (suc i) j)

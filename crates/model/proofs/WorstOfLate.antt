@@ -14,17 +14,17 @@ use Rattle.model.specs.Stores.{bankOf}
 use Rattle.model.specs.Refusals.{readRefusal}
 use Rattle.model.specs.Calls.{bankUpdate}
 use Rattle.model.specs.Readings.{effectiveAt}
-use Rattle.model.specs.GateCalls.{gateUpdate, gateHold}
+use Rattle.model.specs.MapCalls.{mapWrite, gateUpdateIf, gateHoldIf}
 use Rattle.model.specs.Worst.{Worst, freshWorst, ringOf, worstOf, floorsTaken, takenAt, worstStep, inTurn, worstAt, highest, latest}
 use Rattle.model.specs.WorstCalls.{besideRefusal, worstReadRefusal, updateIf, worstReadingOf, worstReading}
-use Rattle.model.specs.Demand3.{Call, bank, gate, hold, Stores, step, answer, left, arguments, leftBy, answers, bankHop, bankIn, Making, Lent, made}
+use Rattle.model.specs.Demand3.{Call, bank, gate, hold, write, Stores, step, answer, left, arguments, leftBy, answers, bankHop, bankIn, Making, Lent, made}
 use Rattle.model.specs.Sets.{worstIn}
 use Rattle.model.specs.WorstOfLate.{carries, plain, counts, slowBank, slowBanks, floorsIn, Fresh, WorstIs, WorstSound, SameBut, Unnoticed}
 use Rattle.model.proofs.Queue.{newest-all}
 use Rattle.model.proofs.WorstTurns.{turn-taken, latest-on, map-latest}
 use Rattle.model.proofs.SettledFloors.{runBank}
 use Rattle.model.proofs.Carrying.{Triple, worstAfter, span-worst-after, bank-same}
-use Rattle.model.proofs.Calls.{SoundBank, SoundWorst, left-bank, left-worst, bank-left, worst-left, n-left, worst-n-left}
+use Rattle.model.proofs.Calls.{SoundBank, SoundWorst, left-bank, left-worst, bank-left, worst-left, bank-n-left, worst-n-left}
 use Rattle.model.proofs.Made.{bank-made, sound-bank-made, store-made, sound-worst-made}
 
 -- the floors that a store holds of channel k, oldest first
@@ -66,17 +66,21 @@ module _ (n W : ℕ) (s t : Stores) (bs : List FloorBank) (q : Kept n W s t bs) 
   step-same (bank c h) =
       let e = update-same c h in
       let m = q .same in
-      (ap (λ (a : Triple). a .0) e, record { bu = ap (λ (a : Triple). a .1) e; bf = ap (λ (a : Triple). a .2) e; gu = m .gu; gf = m .gf })
-  step-same (gate h rise drop) =
+      (ap (λ (a : Triple). a .0) e, record { bu = ap (λ (a : Triple). a .1) e; bf = ap (λ (a : Triple). a .2) e; gu = m .gu; gf = m .gf; map = m .map })
+  step-same (gate c h rise drop) =
       let m = q .same in
-      let e : gateUpdate (s .bu) (s .bf) (s .gu) (s .gf) h rise drop ≡ gateUpdate (t .bu) (t .bf) (t .gu) (t .gf) h rise drop =
-      λ i. gateUpdate (m .bu i) (m .bf i) (m .gu i) (m .gf i) h rise drop in
-      (λ i. e i .0, record { bu = m .bu; bf = m .bf; gu = λ i. e i .1; gf = λ i. e i .2 })
-  step-same (hold rise drop) =
+      let e : gateUpdateIf c (s .bu) (s .bf) (s .gu) (s .gf) (s .map) h rise drop ≡ gateUpdateIf c (t .bu) (t .bf) (t .gu) (t .gf) (t .map) h rise drop =
+      λ i. gateUpdateIf c (m .bu i) (m .bf i) (m .gu i) (m .gf i) (m .map i) h rise drop in
+      (λ i. e i .0, record { bu = m .bu; bf = m .bf; gu = λ i. e i .1; gf = λ i. e i .2; map = λ i. e i .3 })
+  step-same (hold c rise drop) =
       let m = q .same in
-      let e : gateHold (s .bu) (s .bf) (s .gu) (s .gf) rise drop ≡ gateHold (t .bu) (t .bf) (t .gu) (t .gf) rise drop =
-      λ i. gateHold (m .bu i) (m .bf i) (m .gu i) (m .gf i) rise drop in
-      (λ i. e i .0, record { bu = m .bu; bf = m .bf; gu = m .gu; gf = λ i. e i .1 })
+      let e : gateHoldIf c (s .bu) (s .bf) (s .gu) (s .gf) (s .map) rise drop ≡ gateHoldIf c (t .bu) (t .bf) (t .gu) (t .gf) (t .map) rise drop =
+      λ i. gateHoldIf c (m .bu i) (m .bf i) (m .gu i) (m .gf i) (m .map i) rise drop in
+      (λ i. e i .0, record { bu = m .bu; bf = m .bf; gu = m .gu; gf = λ i. e i .1; map = λ i. e i .2 })
+  step-same (write i v) =
+      let m = q .same in
+      let e : mapWrite (s .gu) (s .gf) (s .map) i v ≡ mapWrite (t .gu) (t .gf) (t .map) i v = λ j. mapWrite (m .gu j) (m .gf j) (m .map j) i v in
+      (λ j. e j .0, record { bu = m .bu; bf = m .bf; gu = m .gu; gf = m .gf; map = λ j. e j .1 })
 
   counts-at : (c : Call) (r p : ℕ) → answer s c ≡ r → bankIn s .phase ≡ p → counts t c ≡ (carries c && eqb r 0 && eqb p 0)
   unfolding counts
@@ -105,10 +109,12 @@ module _ (n W : ℕ) (s t : Stores) (bs : List FloorBank) (q : Kept n W s t bs) 
     turns (bank true h) (suc r) p e = rw (not-nought r) stays
     turns (bank false h) zero p e = stays
     turns (bank false h) (suc r) p e = stays
-    turns (gate h rise drop) zero p e = stays
-    turns (gate h rise drop) (suc r) p e = stays
-    turns (hold rise drop) zero p e = stays
-    turns (hold rise drop) (suc r) p e = stays
+    turns (gate c h rise drop) zero p e = stays
+    turns (gate c h rise drop) (suc r) p e = stays
+    turns (hold c rise drop) zero p e = stays
+    turns (hold c rise drop) (suc r) p e = stays
+    turns (write i v) zero p e = stays
+    turns (write i v) (suc r) p e = stays
 
   kept : (c : Call) → Kept n W (left s c) (left t (plain c)) (bs ++ slowBank (counts t c) (bankIn (left t (plain c))))
   kept c =
@@ -119,7 +125,7 @@ module _ (n W : ℕ) (s t : Stores) (bs : List FloorBank) (q : Kept n W s t bs) 
       record {
         bank = bank-left s c (q .bank);
         worst = worst-left s c (q .worst);
-        bank-n = n-left s c (q .bank) ∙ q .bank-n;
+        bank-n = bank-n-left s c (q .bank) ∙ q .bank-n;
         worst-n = worst-n-left s c (q .worst) ∙ q .worst-n;
         span = ap (λ (w : Worst). w .W) (l .worst-is) ∙ span-worst-after (answer s c) (bankIn s) (worstIn s) (arguments c) ∙ q .span;
         same = d;
@@ -158,7 +164,7 @@ module _ (m : Making) (p : Lent) (d : Fresh m p) where
         bank-n = ap (λ (b : FloorBank). b .n) (bank-made m p (d .bank)) ∙ (unfold freshBank in refl);
         worst-n = ap (λ (w : Worst). w .n) w ∙ (unfold freshWorst in refl);
         span = ap (λ (w : Worst). w .W) w ∙ (unfold freshWorst in refl);
-        same = record { bu = refl; bf = refl; gu = refl; gf = refl };
+        same = record { bu = refl; bf = refl; gu = refl; gf = refl; map = refl };
         floors = λ k h. ap (λ (w : Worst). held w k) w ∙ (unfold freshWorst in sym (newest-all {A = Float} (p .W) [] (omega arith)));
       }
 

@@ -3,10 +3,12 @@
 use mathlib.Core.Path.{_≡_}
 use mathlib.Core.Bool.{true}
 use mathlib.Core.List.{List}
+use lib.ListN.{getD}
 use Rattle.model.specs.Refusals.{bankRefusal}
 use Rattle.model.specs.Gate.{Gate}
 use Rattle.model.specs.GateStores.{gateOf}
 use Rattle.model.specs.GateCalls.{absent, gateRefusal}
+use Rattle.model.specs.MapCalls.{mapRefusal}
 use Rattle.model.specs.GoodBank.{Good}
 use Rattle.model.specs.GoodGate.{GoodGate}
 use Rattle.model.specs.Worst.{Worst, worstOf}
@@ -21,7 +23,7 @@ abbrev pub worstIn : Stores → Worst
 worstIn s = worstOf (s .wu) (s .wf)
 
 -- no store is refused, with 2 or with 9, and all hold what is sound; R-6: the bank's n is that of the store beside it, so no call that carries it
--- is refused with 8
+-- is refused with 8; R-12: the map is one for the gate's n
 pub record Sound (s : Stores) : Type 0 where
   pub bank-passes : bankRefusal (s .bu) (s .bf) ≡ 0
   pub bank-good : Good (bankIn s)
@@ -30,6 +32,7 @@ pub record Sound (s : Stores) : Type 0 where
   pub worst-passes : worstRefusal (s .wu) (s .wf) ≡ 0
   pub worst-good : GoodWorst (worstIn s)
   pub worst-n : worstIn s .n ≡ bankIn s .n
+  pub map-passes : mapRefusal (getD (s .gu) 0 0) (s .map) ≡ 0
 
 -- whatever the calls, refused or not, a set that was fresh is sound
 abbrev pub StaySound : Type 0

@@ -11,20 +11,22 @@ use Rattle.model.specs.Bank.{FloorBank}
 use Rattle.model.specs.Readings.{effectiveAt}
 use Rattle.model.specs.Worst.{highest, latest}
 use Rattle.model.specs.WorstCalls.{besideRefusal, worstReading}
-use Rattle.model.specs.Demand3.{Call, bank, gate, hold, Stores, answer, left, leftBy, answers, bankIn, Making, Lent, newBank, newWorst, made}
+use Rattle.model.specs.Demand3.{Call, bank, gate, hold, write, Stores, answer, left, leftBy, answers, bankIn, Making, Lent, newBank, newWorst, made}
 
 -- ---- the banks that a list leaves, with nothing carried: no ring stands here
 
 abbrev pub carries : Call → Bool
 carries (bank c h) = c
-carries (gate h rise drop) = false
-carries (hold rise drop) = false
+carries (gate c h rise drop) = false
+carries (hold c rise drop) = false
+carries (write i v) = false
 
 -- the same call, carrying nothing
 abbrev pub plain : Call → Call
 plain (bank c h) = bank false h
-plain (gate h rise drop) = gate h rise drop
-plain (hold rise drop) = hold rise drop
+plain (gate c h rise drop) = gate c h rise drop
+plain (hold c rise drop) = hold c rise drop
+plain (write i v) = write i v
 
 -- "accepted slow hops .. of the bank updates that carry it"
 unfoldable pub counts : Stores → Call → Bool
@@ -71,6 +73,7 @@ pub record SameBut (s t : Stores) : Type 0 where
   pub bf : s .bf ≡ t .bf
   pub gu : s .gu ≡ t .gu
   pub gf : s .gf ≡ t .gf
+  pub map : s .map ≡ t .map
 
 -- bank and gate are what they would be if nothing were carried, and the same calls are refused, with the same refusals
 abbrev pub Unnoticed : Type 0
