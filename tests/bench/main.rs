@@ -4,12 +4,13 @@ mod channelizer;
 #[allow(dead_code)]
 #[path = "../compare/build/floor.rs"]
 mod floor;
-#[path = "../compare/log_rows.rs"]
-mod log_rows;
-mod logs;
 #[allow(dead_code)]
 #[path = "../compare/layout.rs"]
 mod layout;
+#[allow(dead_code)]
+#[path = "../compare/log_rows.rs"]
+mod log_rows;
+mod logs;
 #[allow(dead_code)]
 #[path = "../compare/numbers.rs"]
 mod numbers;
