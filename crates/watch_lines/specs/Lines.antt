@@ -84,12 +84,12 @@ channelFloors k f =
     ∷ []
 
 -- where the effective floor comes from, and where the rise floor
-abbrev pub originsColumn : Explanation → List (List ℕ)
-originsColumn x = right 16 (effectiveName (x .effective)) ∷ ascii "," ∷ right 16 (riseName (x .rise)) ∷ []
+abbrev pub originColumns : Explanation → List (List ℕ)
+originColumns x = right 16 (effectiveName (x .effective)) ∷ right 17 (riseName (x .rise)) ∷ []
 
 -- seconds alive, rises, whether it is alive
 abbrev pub channelEnd : ℕ → ℕ → Bool → List (List ℕ)
 channelEnd aliveHops rises alive = right 10 (secondsText aliveHops) ∷ right 7 (decimal rises) ∷ stateName alive ∷ []
 
 abbrev pub channelLine : ℕ → Floors → Explanation → ℕ → ℕ → Bool → List (List ℕ)
-channelLine k f x aliveHops rises alive = channelFloors k f ++ (originsColumn x ++ channelEnd aliveHops rises alive)
+channelLine k f x aliveHops rises alive = channelFloors k f ++ (originColumns x ++ channelEnd aliveHops rises alive)

@@ -43,7 +43,7 @@ fn print_total(hops: u64) {
     say(&line, at);
     io::write_all(
         STDOUT_FILENO,
-        b"channel        raw  effective  rise floor  effective from, rise floor from   alive s  rises  now\n",
+        b"channel        raw  effective  rise floor  effective from  rise floor from   alive s  rises  now\n",
     );
 }
 
