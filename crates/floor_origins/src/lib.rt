@@ -2,7 +2,6 @@
 use block::BLOCK_ALLOWANCE_DB;
 use block::SEED_PUSHES;
 use model::layout::RING_LEN_U16;
-
 ghost use mathlib.Core.Path.{_≡_};
 ghost use mathlib.Core.Bool.{not, _&&_};
 ghost use lib.Dec.{ltb};

@@ -91,8 +91,8 @@ worstColumn true r = right 15 (worstText r) ∷ []
 worstColumn false r = []
 
 -- where the effective floor comes from, and where the rise floor
-abbrev pub originsColumn : Explanation → List (List ℕ)
-originsColumn x = right 16 (effectiveName (x .effective)) ∷ ascii "," ∷ right 16 (riseName (x .rise)) ∷ []
+abbrev pub originColumns : Explanation → List (List ℕ)
+originColumns x = right 16 (effectiveName (x .effective)) ∷ right 17 (riseName (x .rise)) ∷ []
 
 -- seconds alive, rises, whether it is alive
 abbrev pub channelEnd : ℕ → ℕ → Bool → List (List ℕ)
@@ -100,4 +100,4 @@ channelEnd aliveHops rises alive = right 10 (secondsText aliveHops) ∷ right 7 
 
 abbrev pub channelLine : ℕ → Floors → Bool → WorstReading → Explanation → ℕ → ℕ → Bool → List (List ℕ)
 channelLine k f kept worst x aliveHops rises alive =
-    channelFloors k f ++ (worstColumn kept worst ++ (originsColumn x ++ channelEnd aliveHops rises alive))
+    channelFloors k f ++ (worstColumn kept worst ++ (originColumns x ++ channelEnd aliveHops rises alive))

@@ -1,6 +1,6 @@
 // Where floors come from, in a line of its own, in a column of the report and in a row of CSV.
 ghost use mathlib.Core.Path.{_≡_};
-ghost use Rattle.watch_lines.specs.Lines.{putTexts, rowOrigins, explainLine, originsColumn};
+ghost use Rattle.watch_lines.specs.Lines.{putTexts, rowOrigins, explainLine, originColumns};
 use origins::Explanation;
 use watch_floats::put_db;
 use watch_origins::put_effective_origin;
@@ -24,15 +24,14 @@ pub fn put_explain_line(line: &mut [u8; LINE], hop: u64, x: Explanation) -> usiz
     put_rise_origin(line, at, rise, 17)
 }
 
-// Both origins in one column.
+// Both origins of a channel at the end.
 pub fn put_origins(line: &mut [u8; LINE], at: usize, x: Explanation) -> usize
-    ensures { λ r. ⌜ (now (line .exit), r) ≡ putTexts (now (line .entry), at) (originsColumn x) ⌝ }
+    ensures { λ r. ⌜ (now (line .exit), r) ≡ putTexts (now (line .entry), at) (originColumns x) ⌝ }
 {
     let effective = x.effective;
     let rise = x.rise;
     let at = put_effective_origin(line, at, effective, 16);
-    let at = put_text(line, at, b",");
-    put_rise_origin(line, at, rise, 16)
+    put_rise_origin(line, at, rise, 17)
 }
 
 pub fn put_row_origins(line: &mut [u8; LINE], at: usize, x: Explanation) -> usize

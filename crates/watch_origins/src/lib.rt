@@ -26,12 +26,7 @@ pub fn put_effective_origin(
     }
 }
 
-pub fn put_rise_origin(
-    line: &mut [u8; LINE],
-    at: usize,
-    origin: RiseOrigin,
-    width: usize,
-) -> usize
+pub fn put_rise_origin(line: &mut [u8; LINE], at: usize, origin: RiseOrigin, width: usize) -> usize
     ensures { λ r. ⌜ (now (line .exit), r) ≡ putAll (now (line .entry), at) (right width (riseName origin)) ⌝ }
 {
     match origin {

@@ -52,7 +52,7 @@ fn print_total(s: Settings, hops: u64) {
     }
     io::write_all(
         STDOUT_FILENO,
-        b"  effective from, rise floor from   alive s  rises  now\n",
+        b"  effective from  rise floor from   alive s  rises  now\n",
     );
 }
 

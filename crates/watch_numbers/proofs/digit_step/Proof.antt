@@ -36,9 +36,13 @@ add-result-2 c = search needs
 returns-5 : tie.Need-returns-5
 unfolding step
 returns-5 c = let q = c .before in
-    simp
-    (le-leb _ _ (q .before .before .before .if1 .left), le-leb _ _ (q .before .before .if2 .left), le-leb _ _ (q .before .if3 .left), le-leb _ _ (q .if4 .left),
-    c .wide .ensures .0)
+    simp (
+      le-leb _ _ (q .before .before .before .if1 .left),
+      le-leb _ _ (q .before .before .if2 .left),
+      le-leb _ _ (q .before .if3 .left),
+      le-leb _ _ (q .if4 .left),
+      c .wide .ensures .0,
+    )
 
 pub digit-step-spec : {M : Type 1} → statement M
 digit-step-spec =

@@ -27,9 +27,14 @@ unfolding isNews
 returns-2 c = let m = c .before in
     let q = m .before .before in
     let n = q .before in
-    simp
-    (← n .before .effective-number .ensures, ← n .effective-number2 .ensures, eq-eqb _ _ (q .if1 .left), ← m .before .rise-number .ensures,
-    ← m .rise-number2 .ensures, ne-eqb _ _ (c .if2 .taken))
+    simp (
+      ← n .before .effective-number .ensures,
+      ← n .effective-number2 .ensures,
+      eq-eqb _ _ (q .if1 .left),
+      ← m .before .rise-number .ensures,
+      ← m .rise-number2 .ensures,
+      ne-eqb _ _ (c .if2 .taken),
+    )
 
 effective-db-requires : tie.Need-effective-db-requires
 effective-db-requires c κs = search needs
@@ -47,10 +52,18 @@ returns-3 c = let j = c .before in
     let m = r .before in
     let q = m .before .before in
     let n = q .before in
-    simp
-    (← n .before .effective-number .ensures, ← n .effective-number2 .ensures, eq-eqb _ _ (q .if1 .left), ← m .before .rise-number .ensures,
-    ← m .rise-number2 .ensures, eq-eqb _ _ (r .if2 .left), ← j .before .before .effective-db .ensures, ← j .before .effective-db2 .ensures,
-    ← j .jumps .ensures, c .if3 .taken)
+    simp (
+      ← n .before .effective-number .ensures,
+      ← n .effective-number2 .ensures,
+      eq-eqb _ _ (q .if1 .left),
+      ← m .before .rise-number .ensures,
+      ← m .rise-number2 .ensures,
+      eq-eqb _ _ (r .if2 .left),
+      ← j .before .before .effective-db .ensures,
+      ← j .before .effective-db2 .ensures,
+      ← j .jumps .ensures,
+      c .if3 .taken,
+    )
 
 rise-db-requires : tie.Need-rise-db-requires
 rise-db-requires c κs = search needs
@@ -69,10 +82,20 @@ returns-4 c = let z = c .before .before .before in
     let m = r .before in
     let q = m .before .before in
     let n = q .before in
-    simp
-    (← n .before .effective-number .ensures, ← n .effective-number2 .ensures, eq-eqb _ _ (q .if1 .left), ← m .before .rise-number .ensures,
-    ← m .rise-number2 .ensures, eq-eqb _ _ (r .if2 .left), ← j .before .before .effective-db .ensures, ← j .before .effective-db2 .ensures,
-    ← j .jumps .ensures, z .if3 .left, ← c .before .before .rise-db .ensures, ← c .before .rise-db2 .ensures)
+    simp (
+      ← n .before .effective-number .ensures,
+      ← n .effective-number2 .ensures,
+      eq-eqb _ _ (q .if1 .left),
+      ← m .before .rise-number .ensures,
+      ← m .rise-number2 .ensures,
+      eq-eqb _ _ (r .if2 .left),
+      ← j .before .before .effective-db .ensures,
+      ← j .before .effective-db2 .ensures,
+      ← j .jumps .ensures,
+      z .if3 .left,
+      ← c .before .before .rise-db .ensures,
+      ← c .before .rise-db2 .ensures,
+    )
     (c .jumps2 .ensures)
 
 pub is-news-spec : {M : Type 1} → statement M

@@ -6,27 +6,13 @@ use Rattle.watch_lines.proofs.explained.put_origins.Tie as tie
 put-effective-origin-requires : tie.Need-put-effective-origin-requires
 put-effective-origin-requires c κs = search needs
 
-slice-aggregate-put-text : tie.Need-slice-aggregate-put-text
-slice-aggregate-put-text c = search needs
-
-put-text-requires : tie.Need-put-text-requires
-put-text-requires c κs = search needs
-
 put-rise-origin-requires : tie.Need-put-rise-origin-requires
 put-rise-origin-requires c κs = search needs
 
 returns : tie.Need-returns
 returns c =
-    then _ _ _ _ _ (c .before .before .before .before .before .put-effective-origin .ensures)
-    (then _ _ _ _ _ (c .before .before .put-text .ensures)
-    (last _ _ _ (c .put-rise-origin .ensures)))
+    then _ _ _ _ _ (c .before .before .put-effective-origin .ensures)
+    (last _ _ _ (c .put-rise-origin .ensures))
 
 pub put-origins-spec : {M : Type 1} → statement M
-put-origins-spec =
-    tie.close
-    (tie.spec
-    put-effective-origin-requires
-    slice-aggregate-put-text
-    put-text-requires
-    put-rise-origin-requires
-    returns)
+put-origins-spec = tie.close (tie.spec put-effective-origin-requires put-rise-origin-requires returns)

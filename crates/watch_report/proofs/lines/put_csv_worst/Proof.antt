@@ -5,7 +5,7 @@ use Rattle.watch_report.proofs.lines.put_csv_worst.Statement.{statement
 use Rattle.watch_report.proofs.lines.put_csv_worst.Tie as tie
 
 returns : tie.Need-returns
-returns c = let a = c .before .before .before .args in no-cell _ (a .span) (a .x) (c .if1 .taken)
+returns c = let a = c .before .args in no-cell _ (a .span) (a .x) (c .if1 .taken)
 
 slice-aggregate-put-text : tie.Need-slice-aggregate-put-text
 slice-aggregate-put-text c = search needs
@@ -17,7 +17,7 @@ put-worst-requires : tie.Need-put-worst-requires
 put-worst-requires c κs = search needs
 
 returns-2 : tie.Need-returns-2
-returns-2 c = let a = c .before .before .before .before .before .before .before .args in
+returns-2 c = let a = c .before .before .before .before .before .before .args in
     cell _ (a .span) (a .x) _ _ (c .before .before .before .before .if1 .left) (c .before .before .put-text .ensures) (c .put-worst .ensures)
 
 pub put-csv-worst-spec : {M : Type 1} → statement M
