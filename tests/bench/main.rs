@@ -6,10 +6,13 @@ mod channelizer;
 mod floor;
 #[path = "../compare/log_rows.rs"]
 mod log_rows;
+mod antennas;
 mod logs;
 #[allow(dead_code)]
 #[path = "../compare/numbers.rs"]
 mod numbers;
+#[path = "../compare/plain_antennas.rs"]
+mod plain_antennas;
 #[path = "../compare/plain_log.rs"]
 mod plain_log;
 #[path = "../compare/wolfcloak.rs"]
@@ -159,6 +162,7 @@ fn main() {
     for n in [32, 512] {
         for kept in [0, 90, 100] {
             logs::rows(n, kept);
+            antennas::row(n, kept);
         }
     }
 }

@@ -1,6 +1,7 @@
 // The library beside floor.rs: the same calls, every answer, store word and reading compared.
 //   compare [SEED [JOBS]]   compare, all jobs or the first JOBS; the last line has the counts; status 1 if there is a difference
 //   compare sample FILE     write the kept list of calls with floor.rs's answers (README.md)
+mod antennas;
 mod calls;
 #[path = "build/channelizer.rs"]
 mod channelizer;
@@ -13,6 +14,7 @@ mod log_rows;
 mod logs;
 mod louder;
 mod numbers;
+mod plain_antennas;
 mod plain_log;
 mod rules;
 mod runs;
@@ -30,7 +32,7 @@ use tally::Tally;
 
 const SIZES: [usize; 13] = [1, 2, 3, 4, 5, 6, 31, 32, 33, 64, 65, 511, 512];
 
-/// Job i: the making of banks and gates, the hop logs and the dispatcher, two histories, two lists of which one is louder, arbitrary
+/// Job i: the making of banks and gates, the hop logs, two antennas and the dispatcher, two histories, two lists of which one is louder, arbitrary
 /// stores of some size, or a run of some size and plan.
 fn job(i: usize, seed: u64, alone: &mut Alone) -> Option<Tally> {
     let mut t = Tally::default();
@@ -42,6 +44,7 @@ fn job(i: usize, seed: u64, alone: &mut Alone) -> Option<Tally> {
         faults::any_settings(&mut t, &mut rng);
         history::no_call_too_many(&mut t);
         logs::any_logs(&mut t, &mut rng);
+        antennas::any_antennas(&mut t, &mut rng);
         segments::all_ticks(&mut t);
         segments::fair_runs(&mut t, &mut rng);
         louder::no_more(&mut t);

@@ -1,0 +1,118 @@
+use mathlib.Core.Path.{_≡_, refl, sym, ap, ap₂, _∙_}
+use Prim.Native.Nat.{ℕ, _≤_, _-_, _+_, _*_}
+use native.Mathlib.Omega.{arith}
+use mathlib.Core.List.{List}
+use lib.ListN.{length}
+use Rattle.laws.specs.Lists.{tab}
+use Rattle.laws.proofs.Tabs.{length-tab}
+use Rattle.log_model.specs.Whole.{Reading}
+use Rattle.log_hops.specs.Put.{put}
+use Rattle.combine_model.specs.Choose.{chosenAt}
+use Rattle.log_model.specs.Answers.{placeAfter}
+use Rattle.log_combine.proofs.InStep.{two-halves}
+use borrow.Author.Needs.{needs}
+use Rattle.log_combine.proofs.turn.Statement.{statement}
+use Rattle.log_combine.proofs.turn.Tie as tie
+
+choose-requires : tie.Need-choose-requires
+choose-requires c κs = search needs
+
+log-read-requires : tie.Need-log-read-requires
+log-read-requires c κs = search needs
+
+log-read-requires-2 : tie.Need-log-read-requires-2
+log-read-requires-2 c κs = search needs
+
+choose-requires-2 : tie.Need-choose-requires-2
+choose-requires-2 c κs =
+    let y = c .before .before .before .before .before .before .before .before .before .before in
+    let x = y .before .before .before .before .before .before .before in
+    let h = x .before .before .before .before .before .before .before in
+    let s = h .before .before .before .before .before .before .before .before .before .before .before .before .before .before .before in (
+      record {
+        p-long = x .log-read .kept .1 .1 .1 .0 ∙ s .pre .0 .p-long ∙ sym (x .log-read .kept .1 .1 .0);
+        e-long = y .log-read2 .kept .1 .1 .0 ∙ s .pre .0 .e-long ∙ sym (x .log-read .kept .1 .1 .0);
+        q-long = y .log-read2 .kept .1 .1 .1 .0 ∙ s .pre .0 .q-long ∙ sym (x .log-read .kept .1 .1 .0);
+      },
+      (
+        omega (arith, x .log-read .kept .1 .1 .0, s .pre .1 .0, h .choose .kept .1 .1 .1 .1 .1 .0),
+        omega (arith, x .log-read .kept .1 .1 .0, s .pre .1 .1, h .choose .kept .1 .1 .1 .1 .1 .1 .0),
+      ),
+    )
+
+place-after-requires : tie.Need-place-after-requires
+place-after-requires c κs = search needs
+
+place-after-requires-2 : tie.Need-place-after-requires-2
+place-after-requires-2 c κs = search needs
+
+same-length : tie.Need-same-length
+same-length c = search needs
+
+same-length-2 : tie.Need-same-length-2
+same-length-2 c = search needs
+
+same-length-3 : tie.Need-same-length-3
+same-length-3 c = search needs
+
+same-length-4 : tie.Need-same-length-4
+same-length-4 c = search needs
+
+same-length-5 : tie.Need-same-length-5
+same-length-5 c = search needs
+
+same-length-6 : tie.Need-same-length-6
+same-length-6 c = search needs
+
+returns : tie.Need-returns
+returns c =
+    let g = c .before .before .before .before .before .before in
+    let y = g .before .before .before .before .before .before .before .before .before .before .before in
+    let x = y .before .before .before .before .before .before .before in
+    let h = x .before .before .before .before .before .before .before in
+    let s = h .before .before .before .before .before .before .before .before .before .before .before .before .before .before .before in
+    let a = s .args in
+    let n : ℕ = length (a .d .now) in
+    let d : List ℕ = x .log-read .last .1 .1 .0 in
+    let p : List ℕ = x .log-read .last .1 .1 .1 .0 in
+    let e : List ℕ = y .log-read2 .last .1 .1 .0 in
+    let q : List ℕ = y .log-read2 .last .1 .1 .1 .0 in
+    let one = x .log-read .ensures in
+    let two = y .log-read2 .ensures in
+    let wide : length d ≡ n = x .log-read .kept .1 .1 .0 in
+    let after : (f : ℕ → ℕ) → tab (length d) f ≡ tab n f = λ f. ap (λ (m : ℕ). tab m f) wide in (
+      (
+        c .before .place-after .ensures ∙ ap (λ (r : Reading). placeAfter (r .0) (a .x)) one,
+        c .place-after2 .ensures ∙ ap (λ (r : Reading). placeAfter (r .0) (a .y)) two,
+      ),
+      (
+        (ap (λ (r : Reading). r .1) one, ap (λ (r : Reading). r .2) one),
+        (
+          (ap (λ (r : Reading). r .1) two, ap (λ (r : Reading). r .2) two),
+          (
+            two-halves n (tab n (chosenAt (a .p .now) (a .q .now) (a .d .now) (a .e .now))) (tab n (chosenAt p q d e)) (a .db .now) (h .choose .last .1 .1 .1 .1 .1 .0) (g .choose2 .last .1 .1 .1 .1 .1 .0)
+                (length-tab n _) (length-tab n _) (s .pre .1 .0) (h .choose .ensures .0) (g .choose2 .ensures .0 ∙ ap (λ (r : List ℕ). put n r (h .choose .last .1 .1 .1 .1 .1 .0)) (after (chosenAt p q d e))),
+            two-halves n (tab n (chosenAt (a .p .now) (a .q .now) (a .p .now) (a .q .now))) (tab n (chosenAt p q p q)) (a .power .now) (h .choose .last .1 .1 .1 .1 .1 .1 .0) (g .choose2 .last .1 .1 .1 .1 .1 .1 .0)
+                (length-tab n _) (length-tab n _) (s .pre .1 .1) (h .choose .ensures .1) (g .choose2 .ensures .1 ∙ ap (λ (r : List ℕ). put n r (h .choose .last .1 .1 .1 .1 .1 .1 .0)) (after (chosenAt p q p q))),
+          ),
+        ),
+      ),
+    )
+
+pub turn-spec : {M : Type 1} → statement M
+turn-spec =
+    tie.close
+    (tie.spec
+    choose-requires
+    log-read-requires
+    log-read-requires-2
+    choose-requires-2
+    place-after-requires
+    place-after-requires-2
+    same-length
+    same-length-2
+    same-length-3
+    same-length-4
+    same-length-5
+    same-length-6
+    returns)
