@@ -27,8 +27,8 @@ add-is-changed c = search needs
 is-changed-requires : tie.Need-is-changed-requires Inv-loop μ-loop
 is-changed-requires c κs = search needs
 
-bit-requires : tie.Need-bit-requires Inv-loop μ-loop
-bit-requires c κs = search needs
+one-requires : tie.Need-one-requires Inv-loop μ-loop
+one-requires c κs = search needs
 
 add-count : tie.Need-add-count Inv-loop μ-loop
 add-count c = search needs
@@ -44,10 +44,10 @@ loop-again c =
     let l = c .before .before .before in
     let a = l .before .before .before .args in
     let p : ℕ → Bool = λ i. changed (a .n) (a .db .now) (a .power .now) (a .n + i) in
-    (omega arith, (omega (arith, tally-more (l .loop .k) p, c .bit .ensures .0, ap one (c .before .is-changed .ensures)), omega arith))
+    (omega arith, (omega (arith, tally-more (l .loop .k) p, c .one .ensures .0, ap one (c .before .is-changed .ensures)), omega arith))
 
-map-len-requires : tie.Need-map-len-requires Inv-loop μ-loop
-map-len-requires c κs = search needs
+width-requires : tie.Need-width-requires Inv-loop μ-loop
+width-requires c κs = search needs
 
 mul-result : tie.Need-mul-result Inv-loop μ-loop
 mul-result c = search needs
@@ -60,7 +60,7 @@ returns c =
     let l = c .before .before in
     let a = l .before .before .before .args in
     let e : l .loop .k ≡ a .n = omega arith in
-    omega (arith, c .map-len .ensures, l .loop .inv .1 .0, ap (λ (i : ℕ). tally i (λ i. changed (a .n) (a .db .now) (a .power .now) (a .n + i))) e)
+    omega (arith, c .width .ensures, l .loop .inv .1 .0, ap (λ (i : ℕ). tally i (λ i. changed (a .n) (a .db .now) (a .power .now) (a .n + i))) e)
 
 pub hop-len-spec : {M : Type 1} → statement M
 hop-len-spec =
@@ -71,12 +71,12 @@ hop-len-spec =
     loop-holds
     add-is-changed
     is-changed-requires
-    bit-requires
+    one-requires
     add-count
     add-k
     loop-less
     loop-again
-    map-len-requires
+    width-requires
     mul-result
     add-result
     returns)
