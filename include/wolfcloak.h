@@ -52,13 +52,17 @@ extern "C" {
 
 /* ---- the bank: a noise floor for each of n channels, 1 to 512 ---- */
 
-/* How many uint16_t and how many double a bank of n channels takes; 0 where making refuses n. */
+/*
+ * How many uint16_t and how many double a bank of n channels takes; 0 where making refuses n. With B = ceil(n / 32) they are
+ * 3 + B + 573 n and 4 n + 2 B: for 32 channels 18,340 and 130, for 512 channels 293,395 and 2,080. A bank's store from before
+ * its floors reached down to -160 dB is shorter, 533 a channel: every call refuses it with 2, and it has to be made anew.
+ */
 size_t wolfcloak_bank_len(size_t n);
 size_t wolfcloak_bank_f_len(size_t n);
 
 /*
  * Makes a fresh bank of n channels in the two stores, whatever they held: bank has to be wolfcloak_bank_len(n) long and bank_f
- * wolfcloak_bank_f_len(n). Every floor is -140 dB until the first update. Refuses with 1, then 2.
+ * wolfcloak_bank_f_len(n). Every floor is -160 dB until the first update. Refuses with 1, then 2.
  */
 uint16_t wolfcloak_bank_new(uint16_t *bank, size_t bank_len, double *bank_f, size_t bank_f_len, size_t n);
 
@@ -82,7 +86,7 @@ uint16_t wolfcloak_bank_update_holding_reference(uint16_t *bank, size_t bank_len
  * Readings of channel k, 0 to n - 1. Each writes *value where it answers 0, and refuses with 2 or 9 for the stores, then 7.
  */
 
-/* The raw floor in dB: the lower quartile of the channel's last 250 slow hops, in bins of half a dB. */
+/* The raw floor in dB: the lower quartile of the channel's last 250 slow hops, in bins of half a dB from -160 to 0. */
 uint16_t wolfcloak_channel_floor_db(const uint16_t *bank, size_t bank_len, const double *bank_f, size_t bank_f_len,
                                     size_t k, double *value);
 
@@ -104,7 +108,7 @@ uint16_t wolfcloak_spectral_reference(const uint16_t *bank, size_t bank_len, con
 uint16_t wolfcloak_floors(const uint16_t *bank, size_t bank_len, const double *bank_f, size_t bank_f_len,
                           size_t k, double *effective, double *rise, double *raw);
 
-/* Where in bank the ring of channel k lies: bank[*start] to bank[*start + *len - 1], its last 250 bins. */
+/* Where in bank the ring of channel k lies: bank[*start] to bank[*start + *len - 1], its last 250 bins, 0 to 319. */
 uint16_t wolfcloak_ring(const uint16_t *bank, size_t bank_len, const double *bank_f, size_t bank_f_len,
                         size_t k, size_t *start, size_t *len);
 
@@ -129,10 +133,11 @@ uint16_t wolfcloak_gate_new(uint16_t *gate, size_t gate_len, double *gate_f, siz
                             int32_t on, int32_t off, int32_t early, const uint16_t *lengths, size_t lengths_len);
 
 /*
- * One hop, after the bank's update with the same hop: steps the smoothed dB and the windows, then writes for each channel 1 or 0
- * to rise and to drop, both n long. A channel rises where two whole windows of some length both reach the on level over its rise
- * floor and no neighbour within two channels is stronger, or where its smoothed dB reaches the early level over its effective
- * floor; it drops where its smoothed dB is below the off level over its effective floor.
+ * One hop, after the bank's update with the same hop: steps the smoothed dB and the windows, works out the threshold of each channel
+ * whose rise floor has moved (the gate remembers the others), then writes for each channel 1 or 0 to rise and to drop, both n long. A
+ * channel rises where two whole windows of some length both reach the on level over its rise floor and no neighbour within two
+ * channels is stronger, or where its smoothed dB reaches the early level over its effective floor; it drops where its smoothed dB is
+ * below the off level over its effective floor. Between two eighths of a dB, the on level over the rise floor is the upper one.
  * Refuses with 2 or 9 for the bank's stores, then for the gate's, then 8, then 5.
  */
 uint16_t wolfcloak_gate_update(const uint16_t *bank, size_t bank_len, const double *bank_f, size_t bank_f_len,
@@ -141,11 +146,13 @@ uint16_t wolfcloak_gate_update(const uint16_t *bank, size_t bank_len, const doub
                                uint8_t *rise, size_t rise_len, uint8_t *drop, size_t drop_len);
 
 /*
- * The marks as the gate stands, without a step: for a hop of static. Before the first update it writes zeros.
+ * The marks as the gate stands, without a step: for a hop of static. The bank's floors may have moved since the last update, so it
+ * brings the thresholds that the gate remembers up to date, and with them gate_f. Before the first update it writes zeros to rise
+ * and drop, and nothing to gate_f.
  * Refuses as the update does.
  */
 uint16_t wolfcloak_gate_hold(const uint16_t *bank, size_t bank_len, const double *bank_f, size_t bank_f_len,
-                             const uint16_t *gate, size_t gate_len, const double *gate_f, size_t gate_f_len,
+                             const uint16_t *gate, size_t gate_len, double *gate_f, size_t gate_f_len,
                              uint8_t *rise, size_t rise_len, uint8_t *drop, size_t drop_len);
 
 /* The smoothed dB of channel k; 0 before the first update. Refuses with 2 or 9 for the gate's stores, then 7. */

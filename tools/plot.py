@@ -10,6 +10,8 @@ import csv
 import sys
 
 LEFT, TOP, WIDTH, STRIP, GAP = 74, 78, 980, 84, 14
+# where the histogram begins
+BOTTOM_DB = -160.0
 # one colour for one meaning
 POWER, EFFECTIVE, RISE, ALIVE, UP, DOWN, TEXT = "#9aa3ad", "#1f5fa8", "#d9822b", "#dcefdc", "#1c7c34", "#b3261e", "#222"
 
@@ -99,8 +101,8 @@ def main():
         sys.exit("plot.py: no rows; pipe `watch --csv FILE` into it")
     rows = [row for each in channels.values() for row in each]
     seconds = max(number(row, "seconds") for row in rows) or 1.0
-    levels = sorted(x for x in (number(row, "db") for row in rows) if x > -140.0)
-    low = 10.0 * ((levels[len(levels) // 50] if levels else -140.0) // 10.0)
+    levels = sorted(x for x in (number(row, "db") for row in rows) if x > BOTTOM_DB)
+    low = 10.0 * ((levels[len(levels) // 50] if levels else BOTTOM_DB) // 10.0)
     high = 10.0 * ((levels[-1] if levels else 0.0) // 10.0 + 1.0)
     bottom = TOP + len(channels) * (STRIP + GAP)
     out = [

@@ -7,7 +7,8 @@ The same seed makes the same bytes. A recording is n in two bytes, then for each
 (f64) and n powers (f32), the lowest byte of each first; 375 hops are a second. What is in it:
 
   0 to 1.2 s    digital silence: the receiver is on and its converter is not, every power is 0 (-200 dB)
-  1.2 s on      noise, a power with an exponential distribution in each channel; its mean drifts from -112 to -105 dB
+  1.2 s on      noise, a power with an exponential distribution in each channel; its mean drifts from -147 to -140 dB, so
+                that every floor lies below -140 dB
   4 s on        a strong caller on channel 2, 28 dB over the noise at the start, 20 words a minute: CQ CQ DE HB9RF
   13 s on       a weak caller on channel 5, 12 dB over the noise, 13 words a minute: HB9RF DE OE7X K
   10.4 s        a static crash of 0.5 s, 35 dB over everything on every channel, with its flag
@@ -22,13 +23,13 @@ CHANNELS = 8
 HOPS_A_SECOND = 375
 SECONDS = 24
 SILENCE = 1.2
-NOISE_DB = (-112.0, -105.0)
+NOISE_DB = (-147.0, -140.0)
 CRASH = (10.4, 10.9)
 CRASH_OVER_DB = 35.0
 # channel, start in seconds, words a minute, level in dB, text
 CALLERS = [
-    (2, 4.0, 20, -83.0, "CQ CQ DE HB9RF"),
-    (5, 13.0, 13, -96.0, "HB9RF DE OE7X K"),
+    (2, 4.0, 20, -118.0, "CQ CQ DE HB9RF"),
+    (5, 13.0, 13, -131.0, "HB9RF DE OE7X K"),
 ]
 # What a keyed tone leaks into the channels beside it, in dB against its own.
 LEAK_DB = {1: -34.0, 2: -50.0}

@@ -16,13 +16,13 @@ static double noise(void)
     return (double)(state >> 16) / 65536.0;
 }
 
-/* One hop: about -100 dB everywhere, and the tone at -80 dB from hop 600 to hop 1,100. Linear power is 10^(dB/10). */
+/* One hop: about -150 dB everywhere, and the tone at -130 dB from hop 600 to hop 1,100. Linear power is 10^(dB/10). */
 static void hear(int hop, double *power_db, float *power)
 {
     for (int k = 0; k < CHANNELS; k++) {
         int tone = k == TONE && hop >= 600 && hop < 1100;
-        power_db[k] = (tone ? -80.0 : -100.0) + 4.0 * (noise() - 0.5);
-        power[k] = tone ? 1e-8f : 1e-10f;
+        power_db[k] = (tone ? -130.0 : -150.0) + 4.0 * (noise() - 0.5);
+        power[k] = tone ? 1e-13f : 1e-15f;
     }
 }
 

@@ -17,12 +17,12 @@ impl Noise {
     }
 }
 
-/// One hop: about -100 dB everywhere, the tone at -80 dB from hop 600 to hop 1,100, and in a crash -60 dB everywhere.
+/// One hop: about -150 dB everywhere, the tone at -130 dB from hop 600 to hop 1,100, and in a crash -110 dB everywhere.
 fn hear(hop: usize, crash: bool, noise: &mut Noise) -> ([f64; CHANNELS], [f32; CHANNELS]) {
     let (mut db, mut power) = ([0.0; CHANNELS], [0.0; CHANNELS]);
     for k in 0..CHANNELS {
         let tone = k == TONE && (600..1100).contains(&hop);
-        let (level, linear) = if crash { (-60.0, 1e-6) } else if tone { (-80.0, 1e-8) } else { (-100.0, 1e-10) };
+        let (level, linear) = if crash { (-110.0, 1e-11) } else if tone { (-130.0, 1e-13) } else { (-150.0, 1e-15) };
         db[k] = level + 4.0 * (noise.next() - 0.5);
         power[k] = linear;
     }

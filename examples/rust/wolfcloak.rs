@@ -150,8 +150,8 @@ impl Gate {
         answer(number, ())
     }
 
-    /// The marks as the gate stands, for a hop of static.
-    pub fn hold(&self, bank: &Bank, rise: &mut [u8], drop: &mut [u8]) -> Result<(), Refusal> {
+    /// The marks as the gate stands, for a hop of static; the thresholds that it remembers follow the bank's floors.
+    pub fn hold(&mut self, bank: &Bank, rise: &mut [u8], drop: &mut [u8]) -> Result<(), Refusal> {
         let number = unsafe {
             wolfcloak_gate_hold(
                 bank.words.as_ptr(),
@@ -160,7 +160,7 @@ impl Gate {
                 bank.floats.len(),
                 self.words.as_ptr(),
                 self.words.len(),
-                self.floats.as_ptr(),
+                self.floats.as_mut_ptr(),
                 self.floats.len(),
                 rise.as_mut_ptr(),
                 rise.len(),
@@ -251,7 +251,7 @@ extern "C" {
         bank_f_len: usize,
         gate: *const u16,
         gate_len: usize,
-        gate_f: *const f64,
+        gate_f: *mut f64,
         gate_f_len: usize,
         rise: *mut u8,
         rise_len: usize,

@@ -22,12 +22,12 @@ pub fn rate_row(what: &str, bytes: usize, ours: f64, plain: f64) {
 }
 
 pub fn rows(n: usize, kept: usize) {
-    let count = 2_000_000 / n;
+    let count = 500_000 / n;
     let (db, power) = hops(n, count, kept, 1);
     let mut log = vec![0; 2 + count * (n.div_ceil(8) + 12 * n)];
     let mut len = 0;
     let mut best = [f64::MAX; 4];
-    for _ in 0..9 {
+    for _ in 0..40 {
         let write = time(|| log_rows::write(n, &db, &power, &mut log, &mut len));
         let plain_write = time(|| plain_log::write(n, &db, &power, &mut log));
         let bytes = &log[..len];

@@ -1,5 +1,6 @@
 // One set of arguments, lent to every function, and what is compared of each.
 use crate::floor::{FloorBank, Gate};
+use crate::layout::place;
 use crate::rules::{
     refusal, Rule, GATE_FLOATS, GATE_HOLD, GATE_MAKING, GATE_READ, GATE_SOUND, GATE_STORE, GATE_UPDATE, MAKING, PAIR, READ,
     SOUND, STORE, UPDATE,
@@ -200,11 +201,17 @@ fn gate_update(t: &mut Tally, what: Arguments, l: &Lent, due: u16) {
 
 fn gate_hold(t: &mut Tally, what: Arguments, l: &Lent, due: u16) {
     let c = l.call();
-    let (mut rise, mut drop) = (l.rise.clone(), l.drop.clone());
+    let (mut f, mut rise, mut drop) = (l.gate_f.clone(), l.rise.clone(), l.drop.clone());
     let marks = (&mut rise[..l.rise_len], &mut drop[..l.drop_len]);
-    t.answer(what, lib::gate_hold((c.u, c.f), (c.gate, c.gate_f), marks), due);
-    let held = || Gate::of_stores(c.gate, c.gate_f).hold(&FloorBank::of_stores(c.u, c.f));
-    l.compare_marks(t, what, &rise, &drop, (due == 0).then(held));
+    t.answer(what, lib::gate_hold((c.u, c.f), (c.gate, &mut f[..l.gate_f_len]), marks), due);
+    let held = || {
+        let mut gate = Gate::of_stores(c.gate, c.gate_f);
+        let marks = gate.hold(&FloorBank::of_stores(c.u, c.f));
+        (gate.to_stores(), marks)
+    };
+    let (stores, marks) = (due == 0).then(held).unzip();
+    l.compare_gate(t, what, &l.gate, &f, stores);
+    l.compare_marks(t, what, &rise, &drop, marks);
 }
 
 const BEFORE: f64 = 12345.678;
@@ -259,7 +266,7 @@ pub fn readings_of(t: &mut Tally, what: Arguments, c: &Call, due: u16, oracle: O
     match oracle {
         None => t.check(part == [98765, 43210], format_args!("{what}: ring {k}: refused, and start and len have changed")),
         Some(o) if start <= u.len() && len <= u.len() - start => {
-            let places = 3 + (u[0] as usize).div_ceil(32) + 533 * k;
+            let places = place(u[0] as usize, k);
             t.check(start == places, format_args!("{what}: ring {k}: starts at {start}, and {places} is due"));
             t.words(format_args!("{what}: ring {k}"), &u[start..start + len], o.ring(k));
         }

@@ -1,20 +1,22 @@
 // Refusals: each fault, each pair of faults at once, and arbitrary words, stores and lengths.
 use crate::calls::{every_call, gate_making, making, Lent};
-use crate::floor::{self, FloorBank, Gate, ABSENT};
+use crate::floor::{FloorBank, Gate, ABSENT};
+use crate::layout::{place, BINS, BLOCK_CHANNELS, CHANNEL_LEN, COUNTS, DECIMATION_HOPS, FILLED, HIST_MIN_DB, LEAD, NEXT, RING_LEN};
 use crate::numbers::{any_f32, any_f64, any_lengths, any_levels, beside, Rng};
+use crate::pairs;
 use crate::rules::{count_alone, gate_floats, Alone};
 use crate::tally::Tally;
 use crate::wolfcloak as lib;
 
 /// A channel of the bank as it was made.
 fn channel<'a>(l: &'a mut Lent, rng: &mut Rng) -> &'a mut [u16] {
-    let at = 3 + l.n.div_ceil(32) + 533 * rng.below(l.n);
-    &mut l.u[at..at + 533]
+    let at = place(l.n, rng.below(l.n));
+    &mut l.u[at..at + CHANNEL_LEN]
 }
 
 /// A filled place of its ring.
 fn in_use(c: &[u16], rng: &mut Rng) -> Option<usize> {
-    (1..=250).contains(&c[531]).then(|| rng.below(c[531] as usize))
+    (1..=RING_LEN).contains(&(c[FILLED] as usize)).then(|| rng.below(c[FILLED] as usize))
 }
 
 /// A used triple (m, cursor, filled) of the gate.
@@ -38,13 +40,14 @@ fn fit(l: &mut Lent) {
 
 type Fault = (&'static str, fn(&mut Lent, &mut Rng));
 
-const FAULTS: [Fault; 95] = [
+const FAULTS: [Fault; 96] = [
     ("no u16 store", |l, _| l.u_len = 0),
     ("u16 store of 1", |l, _| l.u_len = 1),
     ("u16 store of 2", |l, _| l.u_len = 2),
     ("u16 store of 3", |l, _| l.u_len = 3),
     ("u16 store one short", |l, _| l.u_len = l.u_len.saturating_sub(1)),
     ("u16 store one long", |l, _| l.u_len += 1),
+    ("u16 store from before R-11", |l, _| l.u_len = 3 + l.n.div_ceil(BLOCK_CHANNELS) + 533 * l.n),
     ("no f64 store", |l, _| l.f_len = 0),
     ("f64 store one short", |l, _| l.f_len = l.f_len.saturating_sub(1)),
     ("f64 store one long", |l, _| l.f_len += 1),
@@ -53,48 +56,48 @@ const FAULTS: [Fault; 95] = [
     ("header n 65535", |l, _| l.u[0] = 65535),
     ("header n one more", |l, _| l.u[0] = l.u[0].wrapping_add(1)),
     ("header n one less", |l, _| l.u[0] = l.u[0].wrapping_sub(1)),
-    ("phase 15", |l, _| l.u[1] = 15),
+    ("phase one too many", |l, _| l.u[1] = DECIMATION_HOPS as u16),
     ("phase 65535", |l, _| l.u[1] = 65535),
     ("started 2", |l, _| l.u[2] = 2),
     ("started 256", |l, _| l.u[2] = 256),
-    ("seed count 26", |l, rng| l.u[3 + rng.below(l.n.div_ceil(32))] = 26),
-    ("next 250", |l, rng| channel(l, rng)[530] = 250),
+    ("seed count 26", |l, rng| l.u[3 + rng.below(l.n.div_ceil(BLOCK_CHANNELS))] = 26),
+    ("next past the ring", |l, rng| channel(l, rng)[NEXT] = RING_LEN as u16),
     ("next elsewhere", |l, rng| {
         let c = channel(l, rng);
-        c[530] = (c[530] + 1) % 250
+        c[NEXT] = (c[NEXT] + 1) % RING_LEN as u16
     }),
-    ("filled one more", |l, rng| channel(l, rng)[531] += 1),
-    ("filled 65535", |l, rng| channel(l, rng)[531] = 65535),
+    ("filled one more", |l, rng| channel(l, rng)[FILLED] += 1),
+    ("filled 65535", |l, rng| channel(l, rng)[FILLED] = 65535),
     ("lead too large", |l, rng| {
         let c = channel(l, rng);
-        c[532] = c[250] + 1
+        c[LEAD] = c[COUNTS] + 1
     }),
-    ("lead 65535", |l, rng| channel(l, rng)[532] = 65535),
-    ("ring entry 280, uncounted", |l, rng| {
+    ("lead 65535", |l, rng| channel(l, rng)[LEAD] = 65535),
+    ("ring entry no bin, uncounted", |l, rng| {
         let c = channel(l, rng);
         if let Some(i) = in_use(c, rng) {
             let b = c[i] as usize;
-            c[i] = 280;
-            if b < 280 && c[250 + b] > 0 && (b > 0 || c[250] > c[532]) {
-                c[250 + b] -= 1
+            c[i] = BINS as u16;
+            if b < BINS && c[COUNTS + b] > 0 && (b > 0 || c[COUNTS] > c[LEAD]) {
+                c[COUNTS + b] -= 1
             }
         }
     }),
-    ("last ring place 280", |l, rng| channel(l, rng)[249] = 280),
-    ("last ring place 65535", |l, rng| channel(l, rng)[249] = 65535),
+    ("last ring place no bin", |l, rng| channel(l, rng)[RING_LEN - 1] = BINS as u16),
+    ("last ring place 65535", |l, rng| channel(l, rng)[RING_LEN - 1] = 65535),
     ("a count one more", |l, rng| {
-        let b = rng.below(280);
-        channel(l, rng)[250 + b] += 1
+        let b = rng.below(BINS);
+        channel(l, rng)[COUNTS + b] += 1
     }),
-    ("last count one more", |l, rng| channel(l, rng)[529] += 1),
+    ("last count one more", |l, rng| channel(l, rng)[NEXT - 1] += 1),
     ("a count 256 more", |l, rng| {
-        let b = rng.below(280);
-        channel(l, rng)[250 + b] += 256
+        let b = rng.below(BINS);
+        channel(l, rng)[COUNTS + b] += 256
     }),
     ("a ring entry moved", |l, rng| {
         let c = channel(l, rng);
         if let Some(i) = in_use(c, rng) {
-            c[i] = (c[i] + 1) % 280
+            c[i] = (c[i] + 1) % BINS as u16
         }
     }),
     ("no dB", |l, _| l.db_len = 0),
@@ -246,38 +249,38 @@ pub fn any_words(t: &mut Tally, l: &Lent, rng: &mut Rng, times: usize) {
             6 => cut.rise_len = rng.below(cut.rise.len()),
             _ => cut.drop_len = rng.below(cut.drop.len()),
         }
-        cut.k = rng.pick(&[0, l.n - 1, l.n, l.n + 1, 65536, 1 << 32, usize::MAX / 533, usize::MAX - 1, usize::MAX]);
+        cut.k = rng.pick(&[0, l.n - 1, l.n, l.n + 1, 65536, 1 << 32, usize::MAX / CHANNEL_LEN, usize::MAX - 1, usize::MAX]);
         every_call(t, format_args!("n {}, slices cut, k {}", l.n, cut.k), &cut);
     }
 }
 
 /// A bank that is sound and nothing more, with any floats.
-fn any_bank(n: usize, rng: &mut Rng) -> (Vec<u16>, Vec<f64>) {
+pub fn any_bank(n: usize, rng: &mut Rng) -> (Vec<u16>, Vec<f64>) {
     let (mut u, mut f) = FloorBank::new(n).to_stores();
-    let blocks = n.div_ceil(32);
-    u[1] = rng.pick(&[0, 0, 0, 1, 7, 14]);
+    let blocks = n.div_ceil(BLOCK_CHANNELS);
+    u[1] = rng.pick(&[0, 0, 0, 1, 7, DECIMATION_HOPS as u16 - 1]);
     u[2] = rng.below(2) as u16;
     for b in 0..blocks {
         u[3 + b] = rng.pick(&[0, 0, 1, 24, 25]);
     }
-    for c in u[3 + blocks..].chunks_exact_mut(533) {
-        let bins = rng.pick(&[1, 2, 280]);
-        let filled = rng.pick(&[0, 1, 4, 24, 25, 26, 100, 249, 250, 250]);
-        for i in 0..250 {
+    for c in u[3 + blocks..].chunks_exact_mut(CHANNEL_LEN) {
+        let bins = rng.pick(&[1, 2, BINS]);
+        let filled = rng.pick(&[0, 1, 4, 24, 25, 26, 100, RING_LEN - 1, RING_LEN, RING_LEN]);
+        for i in 0..RING_LEN {
             c[i] = rng.below(bins) as u16;
-            c[250 + c[i] as usize] += (i < filled) as u16;
+            c[COUNTS + c[i] as usize] += (i < filled) as u16;
         }
-        c[530] = if filled < 250 { filled } else { rng.below(250) } as u16;
-        c[531] = filled as u16;
-        c[532] = rng.below(c[250] as usize + 1) as u16;
+        c[NEXT] = if filled < RING_LEN { filled } else { rng.below(RING_LEN) } as u16;
+        c[FILLED] = filled as u16;
+        c[LEAD] = rng.below(c[COUNTS] as usize + 1) as u16;
     }
     let usual = rng.one_in(2);
-    f.iter_mut().for_each(|x| *x = if usual { -150.0 + 140.0 * rng.unit() } else { any_f64(rng) });
+    f.iter_mut().for_each(|x| *x = if usual { HIST_MIN_DB + 150.0 * rng.unit() } else { any_f64(rng) });
     (u, f)
 }
 
 /// A gate that is sound and nothing more, with any floats; sums and smoothed dB often stand at the very edge of a rise or a drop.
-fn any_gate(bank: &(Vec<u16>, Vec<f64>), levels: [i32; 3], lengths: &[u16], rng: &mut Rng) -> (Vec<u16>, Vec<f64>) {
+pub fn any_gate(bank: &(Vec<u16>, Vec<f64>), levels: [i32; 3], lengths: &[u16], rng: &mut Rng) -> (Vec<u16>, Vec<f64>) {
     let oracle = FloorBank::of_stores(&bank.0, &bank.1);
     let n = oracle.n_channels();
     let (mut g, mut f) = Gate::made(n, levels, lengths).to_stores();
@@ -288,6 +291,9 @@ fn any_gate(bank: &(Vec<u16>, Vec<f64>), levels: [i32; 3], lengths: &[u16], rng:
         let level = rng.pick(&[off, early]);
         f[k] = beside(rng, oracle.effective_floor_db(k) + level);
     }
+    // pairs of all kinds, and below sums at the edges of the thresholds that will be judged with
+    pairs::put_untrue(&mut f, &bank.1[3 * n..], n, rng);
+    let thresholds = pairs::after(&f, &bank.1[3 * n..], n, on).1;
     let mut at = n;
     for l in g[6..].chunks_exact_mut(3).take_while(|l| l[0] > 0) {
         let m = l[0] as usize;
@@ -296,9 +302,9 @@ fn any_gate(bank: &(Vec<u16>, Vec<f64>), levels: [i32; 3], lengths: &[u16], rng:
         l[1] = if filled < 2 * m { filled } else { elsewhere } as u16;
         l[2] = filled as u16;
         at += 2 * m * n;
-        let one_for_all = floor::ladder(oracle.rise_floor_db(rng.below(n)) + on) * m as f64;
+        let one_for_all = thresholds[rng.below(n)] * m as f64;
         for k in 0..n {
-            let edge = if rng.one_in(2) { one_for_all } else { floor::ladder(oracle.rise_floor_db(k) + on) * m as f64 };
+            let edge = if rng.one_in(2) { one_for_all } else { thresholds[k] * m as f64 };
             f[at + k] = beside(rng, edge);
             f[at + n + k] = beside(rng, edge);
         }
@@ -323,7 +329,7 @@ pub fn any_sound_store(t: &mut Tally, n: usize, rng: &mut Rng) {
 }
 
 const HUGE: [usize; 8] =
-    [1 << 16, (1 << 16) + 1, 1 << 32, (1 << 32) + 32, usize::MAX / 533, usize::MAX - 31, usize::MAX - 1, usize::MAX];
+    [1 << 16, (1 << 16) + 1, 1 << 32, (1 << 32) + 32, usize::MAX / CHANNEL_LEN, usize::MAX - 31, usize::MAX - 1, usize::MAX];
 
 fn garbage(len: usize, f_len: usize, rng: &mut Rng) -> (Vec<u16>, Vec<f64>) {
     ((0..len).map(|_| rng.next() as u16).collect(), (0..f_len).map(|_| any_f64(rng)).collect())

@@ -1,5 +1,6 @@
 // Demand 3, run on the library: two sets with different histories hear the same further list.
 use crate::floor::{FloorBank, Gate, ABSENT};
+use crate::layout::{DECIMATION_HOPS, HIST_MIN_DB, SETTLING};
 use crate::numbers::{any_f64, sample, same, Feed, Rng};
 use crate::rules::garbled;
 use crate::tally::Tally;
@@ -65,7 +66,7 @@ impl Set {
         let answer = match s.kind {
             Kind::Bank => lib::bank_update(&mut self.u, &mut self.f, &s.db, &s.power, s.hold),
             Kind::Gate => lib::gate_update(bank, (&mut self.gate, &mut self.gate_f), (&s.db, &s.power), marks),
-            Kind::Hold => lib::gate_hold(bank, (&self.gate, &self.gate_f), marks),
+            Kind::Hold => lib::gate_hold(bank, (&self.gate, &mut self.gate_f), marks),
         };
         if answer == 0 {
             self.banks += (s.kind == Kind::Bank) as usize;
@@ -136,7 +137,7 @@ impl Pair {
         let was_slow = s.kind == Kind::Bank && self.one.u[1] == 0;
         let answer = self.one.call(s);
         t.answer(what, self.other.call(s), answer);
-        if answer == 0 && was_slow && self.banks() < 3750 && !same_floors(&self.one, &self.other) {
+        if answer == 0 && was_slow && self.banks() < SETTLING && !same_floors(&self.one, &self.other) {
             self.floors_differed = self.banks();
         }
         if answer == 0 && s.kind != Kind::Bank && self.one.rise != self.other.rise {
@@ -191,10 +192,10 @@ pub fn any_histories(t: &mut Tally, setting: &Setting, rng: &mut Rng) {
         let any = rng.pick(&[Kind::Bank, Kind::Bank, Kind::Bank, Kind::Gate, Kind::Hold]);
         let kind = if pair.gates() < 1500 && hop % 2 == 0 { Kind::Gate } else { any };
         let step = Step::any(rng, n, kind, feed, hop);
-        if !is_loud && kind == Kind::Bank && !garbled(&step.db) && !step.db.iter().all(|&x| x >= -140.0) {
+        if !is_loud && kind == Kind::Bank && !garbled(&step.db) && !step.db.iter().all(|&x| x >= HIST_MIN_DB) {
             continue; // it could be the first accepted slow hop
         }
-        if pair.banks() >= 3750 && pair.gates() >= 1500 {
+        if pair.banks() >= SETTLING && pair.gates() >= 1500 {
             pair.compare(t, what, &step, early);
             compared += 1;
             if compared == 40 || t.differences > 1000 {
@@ -218,14 +219,14 @@ pub fn no_call_too_many(t: &mut Tally) {
     let what = format_args!("history, no call too many");
     t.answer(what, one.call(&step(Kind::Bank, -120.0, 1e-12)), 0);
     t.answer(what, one.call(&step(Kind::Gate, -120.0, f32::INFINITY)), 0);
-    (0..3751).for_each(|_| t.answer(what, other.call(&step(Kind::Bank, -60.0, 1e-6)), 0));
+    (0..SETTLING + 1).for_each(|_| t.answer(what, other.call(&step(Kind::Bank, -60.0, 1e-6)), 0));
     (0..751).for_each(|_| t.answer(what, other.call(&step(Kind::Gate, -60.0, 1e-6)), 0));
     let mut pair = Pair::new(one, other);
-    for hop in 1..=3750 {
+    for hop in 1..=SETTLING {
         // of the 249 slow hops before the last, 62 are quiet: the entry from before decides the quartile
-        let is_quiet = hop % 15 == 0 && (2..64).contains(&(hop / 15));
+        let is_quiet = hop % DECIMATION_HOPS == 0 && (2..64).contains(&(hop / DECIMATION_HOPS));
         pair.call(t, what, &step(Kind::Bank, if is_quiet { -120.0 } else { -60.0 }, 1e-6));
-        let due = hop < 3750;
+        let due = hop < SETTLING;
         t.check(same_floors(&pair.one, &pair.other) != due || hop < 945, format_args!("{what}: floors after {hop} bank updates"));
     }
     for _ in 0..1500 {

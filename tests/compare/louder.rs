@@ -1,6 +1,7 @@
 // R-10, run on the library: of two lists of bank updates, each dB of the second at least that of the first, the second leaves no raw
 // floor lower. Of its neighbours, which are not claimed, an example each.
 use crate::floor::FloorBank;
+use crate::layout::{DECIMATION_HOPS, SETTLING};
 use crate::numbers::{any_f32, any_f64, edge, sample, Feed, Rng};
 use crate::tally::Tally;
 use crate::wolfcloak as lib;
@@ -55,7 +56,7 @@ impl Bank {
 #[derive(Clone, Copy, Debug, PartialEq)]
 enum Plan {
     TopBin,     // both fill their rings with the top bin: the floors are equal
-    OneHop,     // one slow hop, which leaves the ring after 250 more: the floors are equal again
+    OneHop,     // one slow hop, which leaves the ring once that has filled anew: the floors are equal again
     SomeGains,  // a gain on every third channel: the floors of the others are equal
     AnyNumbers, // any dB but NaN, infinities among them
     Noise,      // noise, a gain that rises with time
@@ -66,8 +67,8 @@ const SIZES: [usize; 4] = [1, 2, 33, 64];
 pub const PAIRS: usize = PLANS.len() * SIZES.len();
 
 /// Which hop is the loud one: a slow one.
-const LOUD: usize = 15 * 40;
-const HOPS: usize = LOUD + 15 * 255;
+const LOUD: usize = DECIMATION_HOPS * 40;
+const HOPS: usize = LOUD + SETTLING + DECIMATION_HOPS * 5;
 
 /// Any number but NaN.
 fn number(rng: &mut Rng) -> f64 {
@@ -104,13 +105,13 @@ pub fn any_pair(t: &mut Tally, i: usize, rng: &mut Rng) {
         let (first, second): (Vec<f64>, Vec<f64>) = (0..n).map(|k| heard(plan, rng, hop, k)).unzip();
         one.hear(t, what, &first, rng);
         other.hear(t, what, &second, rng);
-        for k in (0..n).filter(|_| hop % 15 == 0 || hop + 1 == HOPS) {
+        for k in (0..n).filter(|_| hop % DECIMATION_HOPS == 0 || hop + 1 == HOPS) {
             let (a, b) = (one.raw(k), other.raw(k));
             t.check(a <= b, format_args!("{what}: after hop {hop} raw floor {k} falls from {a:?} to {b:?}"));
             higher += (a < b) as usize;
             let alike = match plan {
                 Plan::TopBin => true,
-                Plan::OneHop => hop < LOUD || hop >= LOUD + 15 * 250,
+                Plan::OneHop => hop < LOUD || hop >= LOUD + SETTLING,
                 Plan::SomeGains => k % 3 != 0,
                 _ => false,
             };
@@ -136,11 +137,11 @@ pub fn no_more(t: &mut Tally) {
     let nan = after(t, &[(1, f64::NAN)]);
     t.check(one.raw(0) > nan.raw(0), format_args!("{what}: with a NaN"));
     // a longer list
-    let longer = after(t, &[(15, -50.0), (1, -130.0)]);
+    let longer = after(t, &[(DECIMATION_HOPS, -50.0), (1, -130.0)]);
     t.check(one.raw(0) > longer.raw(0), format_args!("{what}: a longer list"));
     // effective floors: at -200 the block takes no seed, and the first entry is left out; at the bottom it is an entry like any other
     let bottom = Bank::new(1).raw(0);
-    let (one, other) = (after(t, &[(15, -200.0), (1, -50.0)]), after(t, &[(15, bottom), (1, -50.0)]));
+    let (one, other) = (after(t, &[(DECIMATION_HOPS, -200.0), (1, -50.0)]), after(t, &[(DECIMATION_HOPS, bottom), (1, -50.0)]));
     t.check(one.raw(0) <= other.raw(0), format_args!("{what}: raw floors, too"));
     t.check(one.effective(0) > other.effective(0), format_args!("{what}: effective floors"));
 }

@@ -2,6 +2,7 @@
 //   compare [SEED [JOBS]]   compare, all jobs or the first JOBS; the last line has the counts; status 1 if there is a difference
 //   compare sample FILE     write the kept list of calls with floor.rs's answers (README.md)
 mod antennas;
+mod bottom;
 mod calls;
 #[path = "build/channelizer.rs"]
 mod channelizer;
@@ -10,13 +11,16 @@ mod faults;
 #[path = "build/floor.rs"]
 mod floor;
 mod history;
+mod layout;
 mod log_rows;
 mod logs;
 mod louder;
 mod numbers;
+mod pairs;
 mod plain_antennas;
 mod plain_log;
 mod rules;
+mod rungs;
 mod runs;
 mod sample;
 mod segments;
@@ -32,8 +36,8 @@ use tally::Tally;
 
 const SIZES: [usize; 13] = [1, 2, 3, 4, 5, 6, 31, 32, 33, 64, 65, 511, 512];
 
-/// Job i: the making of banks and gates, the hop logs, two antennas and the dispatcher, two histories, two lists of which one is louder, arbitrary
-/// stores of some size, or a run of some size and plan.
+/// Job i: the making of banks and gates, the ladder, the hop logs, two antennas and the dispatcher, two histories, two lists of which one
+/// is louder, arbitrary stores of some size, or a run of some size and plan.
 fn job(i: usize, seed: u64, alone: &mut Alone) -> Option<Tally> {
     let mut t = Tally::default();
     let mut rng = Rng(seed ^ (i as u64) << 32);
@@ -43,6 +47,9 @@ fn job(i: usize, seed: u64, alone: &mut Alone) -> Option<Tally> {
         faults::any_n(&mut t, &mut rng);
         faults::any_settings(&mut t, &mut rng);
         history::no_call_too_many(&mut t);
+        bottom::every_edge(&mut t);
+        rungs::each_rung(&mut t);
+        rungs::any_s(&mut t, &mut rng);
         logs::any_logs(&mut t, &mut rng);
         antennas::any_antennas(&mut t, &mut rng);
         segments::all_ticks(&mut t);
@@ -55,6 +62,7 @@ fn job(i: usize, seed: u64, alone: &mut Alone) -> Option<Tally> {
     } else if i <= lists + SIZES.len() {
         let n = SIZES[i - lists - 1];
         (0..6000 / (n + 10)).for_each(|_| faults::any_sound_store(&mut t, n, &mut rng));
+        (0..6000 / (n + 10)).for_each(|_| pairs::any_pairs(&mut t, n, &mut rng));
     } else {
         let run = i - lists - SIZES.len() - 1;
         let n = *SIZES.get(run / PLANS.len())?;
@@ -97,8 +105,10 @@ fn main() {
     }
     let [floors, rises] = t.parted;
     t.check(floors > 0 && rises > 0 || jobs < usize::MAX, format_args!("histories made no difference before the end of the further list"));
+    t.check(t.untrue > 0 || jobs < usize::MAX, format_args!("untrue pairs never made a difference"));
     t.first.iter().for_each(|d| println!("difference: {d}"));
     println!("{} pairs of histories: floors parted for a while in {floors}, rises in {rises}", SETTINGS.len());
+    println!("{} marks were given by untrue pairs", t.untrue);
     println!(
         "seed {seed}: {} channel-hops, {} rises, {} drops, {} comparisons, {} differences",
         t.channel_hops, t.rises, t.drops, t.compared, t.differences

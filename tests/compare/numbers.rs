@@ -1,4 +1,5 @@
 // Seeded numbers, and the floats that are worth feeding.
+use crate::layout::{BINS, HIST_MIN_DB};
 
 /// splitmix64
 pub struct Rng(pub u64);
@@ -36,7 +37,7 @@ pub fn same(a: f64, b: f64) -> bool {
 
 /// An edge between two bins, or a neighbour of one.
 pub fn edge(rng: &mut Rng) -> f64 {
-    let x = -140.0 + rng.below(282) as f64 / 2.0 - 0.5;
+    let x = HIST_MIN_DB + rng.below(BINS + 2) as f64 / 2.0 - 0.5;
     match rng.below(4) {
         0 => x.next_up(),
         1 => x.next_down(),
@@ -45,17 +46,26 @@ pub fn edge(rng: &mut Rng) -> f64 {
     }
 }
 
+/// How many floats `old_bottom` goes through.
+pub const OLD_BOTTOM: usize = 123;
+
+/// data around the old bottom. Every edge of a bin from -160 to -140 dB, and the float on either side of it.
+pub fn old_bottom(i: usize) -> f64 {
+    let edge = -160.0 + (i / 3 % 41) as f64 / 2.0;
+    [edge.next_down(), edge, edge.next_up()][i % 3]
+}
+
 pub fn any_f64(rng: &mut Rng) -> f64 {
-    const ODD: [f64; 14] = [
+    const ODD: [f64; 16] = [
         f64::NAN, f64::INFINITY, f64::NEG_INFINITY, 0.0, -0.0, f64::MIN_POSITIVE, 5e-324, -5e-324, f64::MAX, f64::MIN, -140.0,
-        -200.0, 1e-14, 3.8,
+        -160.0, -200.0, 1e-14, 1e-16, 3.8,
     ];
     match rng.below(6) {
         0 => rng.pick(&ODD),
         1 => edge(rng),
         2 => f64::from_bits(rng.next()),
         3 => f64::from_bits(rng.next() >> 12), // subnormal
-        _ => -160.0 + 170.0 * rng.unit(),
+        _ => -180.0 + 190.0 * rng.unit(),
     }
 }
 
@@ -106,6 +116,7 @@ pub enum Feed {
     Partly,  // digital silence on two channels of three, noise on the others
     Noise,   // noise, with keyed tones
     Edges,   // the edges of bins, finite powers
+    Bottom,  // the edges between -160 and -140 dB and their neighbours, finite powers
     Any,     // any floats, NaNs among them
     Numbers, // any dB but NaN, finite powers
 }
@@ -116,6 +127,7 @@ pub fn sample(rng: &mut Rng, feed: Feed, hop: usize, k: usize) -> (f64, f32) {
         Feed::Silence => (-200.0, 0.0),
         Feed::Partly if k % 3 != 1 => (-200.0, 0.0),
         Feed::Edges => (edge(rng), finite_f32(rng)),
+        Feed::Bottom => (old_bottom(rng.below(OLD_BOTTOM)), finite_f32(rng)),
         Feed::Any => (any_f64(rng), any_f32(rng)),
         Feed::Numbers => {
             let db = any_f64(rng);

@@ -1,15 +1,24 @@
 // Put at the end of floor.rs: the ladder, and the fields as document 01 lays them out in the lent stores, and back.
 
-/// Document 01's ladder; T and TENS are written by oracle.py.
+/// Document 01's ladder, rounded upward as R-5 has it; T and TENS are written by oracle.py.
 pub fn ladder(s: f64) -> f64 {
     if s.is_nan() {
         return f64::NAN;
     }
-    let i = (8.0 * s.clamp(-240.0, 400.0)).floor() as i32;
+    let i = (8.0 * s.clamp(-260.0, 400.0)).ceil() as i32;
     let q = i.div_euclid(80);
     let j = i - 80 * q;
-    T[j as usize] as f64 * TENS[(q + 24) as usize]
+    T[j as usize] as f64 * TENS[(q + 26) as usize]
 }
+
+/// The value of rung r, an eighth of a dB each, from -260 dB to 400 dB.
+pub fn rung(r: usize) -> f64 {
+    T[r % 80] as f64 * TENS[r / 80]
+}
+
+/// 0 dB, and the highest.
+pub const ZERO_DB: usize = 2080;
+pub const TOP: usize = 5280;
 
 impl FloorBank {
     pub fn to_stores(&self) -> (Vec<u16>, Vec<f64>) {
@@ -39,9 +48,9 @@ impl FloorBank {
         let channel = |c: &[u16]| ChannelFloor {
             ring: c[..RING_LEN].try_into().unwrap(),
             hist: std::array::from_fn(|b| c[RING_LEN + b] as u8),
-            ring_pos: c[530] as usize,
-            filled: c[531] as usize,
-            lead_silent: c[532],
+            ring_pos: c[RING_LEN + HIST_BINS] as usize,
+            filled: c[RING_LEN + HIST_BINS + 1] as usize,
+            lead_silent: c[RING_LEN + HIST_BINS + 2],
         };
         let mut at = 0;
         let mut part = |len: usize| {
@@ -49,7 +58,7 @@ impl FloorBank {
             f[at - len..at].to_vec()
         };
         FloorBank {
-            channels: u[3 + blocks..].chunks_exact(533).map(channel).collect(),
+            channels: u[3 + blocks..].chunks_exact(RING_LEN + HIST_BINS + 3).map(channel).collect(),
             floor_db: part(n),
             usable_floor_db: part(n),
             hop_counter: u[1] as u64,
@@ -94,10 +103,11 @@ impl Gate {
         u
     }
 
-    /// The f64 store in its order: smoothed, then ring, recent and previous of each length.
+    /// The f64 store in its order: smoothed, then ring, recent and previous of each length, then the rise floors last used and
+    /// their thresholds.
     pub fn floats(&self) -> Vec<&[f64]> {
         let looks = self.looks.iter().flat_map(|l| [&l.ring[..], &l.recent, &l.previous]);
-        std::iter::once(&self.smoothed_db[..]).chain(looks).collect()
+        std::iter::once(&self.smoothed_db[..]).chain(looks).chain([&self.thr_src_db[..], &self.thr_lin]).collect()
     }
 
     pub fn to_stores(&self) -> (Vec<u16>, Vec<f64>) {
@@ -123,6 +133,8 @@ impl Gate {
             part(&mut look.recent);
             part(&mut look.previous);
         }
+        part(&mut gate.thr_src_db);
+        part(&mut gate.thr_lin);
         gate
     }
 }

@@ -1,6 +1,7 @@
 // Document 01's refusals, rule by rule in its order. A rule may lean on those before it.
 use crate::calls::Call;
 use crate::floor::ABSENT;
+use crate::layout::{BINS, BLOCK_CHANNELS, CHANNEL_LEN, COUNTS, DECIMATION_HOPS, FILLED, LEAD, NEXT, RING_LEN};
 
 pub struct Rule {
     pub name: &'static str,
@@ -13,7 +14,7 @@ const fn rule(name: &'static str, number: u16, broken: fn(&Call) -> bool) -> Rul
 }
 
 fn blocks(n: usize) -> usize {
-    n / 32 + (n % 32 != 0) as usize
+    n / BLOCK_CHANNELS + (n % BLOCK_CHANNELS != 0) as usize
 }
 
 fn header(c: &Call) -> usize {
@@ -21,40 +22,40 @@ fn header(c: &Call) -> usize {
 }
 
 fn a_channel(c: &Call, wrong: impl Fn(&[u16]) -> bool) -> bool {
-    (0..header(c)).any(|k| wrong(&c.u[3 + blocks(header(c)) + 533 * k..][..533]))
+    (0..header(c)).any(|k| wrong(&c.u[3 + blocks(header(c)) + CHANNEL_LEN * k..][..CHANNEL_LEN]))
 }
 
 fn miscounted(ch: &[u16]) -> bool {
-    let mut recount = [0; 280];
-    for &b in ch[..250].iter().take(ch[531] as usize).filter(|&&b| b < 280) {
-        recount[b as usize] += 1;
+    let mut recount = [0; BINS];
+    for b in ch[..RING_LEN].iter().take(ch[FILLED] as usize).map(|&b| b as usize).filter(|&b| b < BINS) {
+        recount[b] += 1;
     }
-    recount != ch[250..530]
+    recount != ch[COUNTS..NEXT]
 }
 
 pub const MAKING: [Rule; 3] = [
     rule("band", 1, |c| !(1..=512).contains(&c.n)),
-    rule("u16 length", 2, |c| c.u.len() != 3 + blocks(c.n) + 533 * c.n),
+    rule("u16 length", 2, |c| c.u.len() != 3 + blocks(c.n) + CHANNEL_LEN * c.n),
     rule("f64 length", 2, |c| c.f.len() != 4 * c.n + 2 * blocks(c.n)),
 ];
 
 pub const STORE: [Rule; 4] = [
     rule("u16 shorter than 3", 2, |c| c.u.len() < 3),
     rule("header n", 9, |c| !(1..=512).contains(&header(c))),
-    rule("u16 length", 2, |c| c.u.len() != 3 + blocks(header(c)) + 533 * header(c)),
+    rule("u16 length", 2, |c| c.u.len() != 3 + blocks(header(c)) + CHANNEL_LEN * header(c)),
     rule("f64 length", 2, |c| c.f.len() != 4 * header(c) + 2 * blocks(header(c))),
 ];
 
 pub const SOUND: [Rule; 9] = [
-    rule("phase", 9, |c| c.u[1] >= 15),
+    rule("phase", 9, |c| c.u[1] as usize >= DECIMATION_HOPS),
     rule("started", 9, |c| c.u[2] > 1),
     rule("seed count", 9, |c| c.u[3..3 + blocks(header(c))].iter().any(|&s| s > 25)),
-    rule("next below 250", 9, |c| a_channel(c, |ch| ch[530] >= 250)),
-    rule("filled at most 250", 9, |c| a_channel(c, |ch| ch[531] > 250)),
-    rule("ring entry below 280", 9, |c| a_channel(c, |ch| ch[..250].iter().any(|&b| b >= 280))),
+    rule("next below the ring's length", 9, |c| a_channel(c, |ch| ch[NEXT] as usize >= RING_LEN)),
+    rule("filled at most the ring's length", 9, |c| a_channel(c, |ch| ch[FILLED] as usize > RING_LEN)),
+    rule("ring entry a bin", 9, |c| a_channel(c, |ch| ch[..RING_LEN].iter().any(|&b| b as usize >= BINS))),
     rule("counts", 9, |c| a_channel(c, miscounted)),
-    rule("next is filled", 9, |c| a_channel(c, |ch| ch[531] < 250 && ch[530] != ch[531])),
-    rule("lead at most count of bin 0", 9, |c| a_channel(c, |ch| ch[532] > ch[250])),
+    rule("next is filled", 9, |c| a_channel(c, |ch| (ch[FILLED] as usize) < RING_LEN && ch[NEXT] != ch[FILLED])),
+    rule("lead at most count of bin 0", 9, |c| a_channel(c, |ch| ch[LEAD] > ch[COUNTS])),
 ];
 
 pub const UPDATE: [Rule; 3] = [
@@ -81,10 +82,10 @@ fn is_level(x: i32) -> bool {
     (-800..=800).contains(&x)
 }
 
-/// How many floats a gate of n channels and these lengths takes, doubles dropped.
+/// How many floats a gate of n channels and these lengths takes, doubles dropped, with the two groups of R-3.
 pub fn gate_floats(n: usize, lengths: impl Iterator<Item = u16>) -> usize {
     let distinct: std::collections::BTreeSet<u16> = lengths.collect();
-    n + distinct.into_iter().map(|m| 2 * m as usize * n + 2 * n).sum::<usize>()
+    n + distinct.into_iter().map(|m| 2 * m as usize * n + 2 * n).sum::<usize>() + 2 * n
 }
 
 pub const GATE_MAKING: [Rule; 6] = [

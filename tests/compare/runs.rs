@@ -3,6 +3,7 @@ use crate::calls::{gate_readings_of, readings_of, Call, Lent};
 use crate::faults;
 use crate::floor::{FloorBank, Gate};
 use crate::numbers::{any_f64, any_levels, sample, Feed, Rng};
+use crate::pairs;
 use crate::rules::{garbled, Alone};
 use crate::tally::Tally;
 use crate::wolfcloak as lib;
@@ -19,7 +20,7 @@ pub const PLANS: [Plan; 5] = [
     Plan { first: (Feed::Noise, 3900), then: &[Feed::Noise, Feed::Silence], injected: false },
     Plan { first: (Feed::Silence, 900), then: &[Feed::Noise], injected: false },
     Plan { first: (Feed::Partly, 4200), then: &[Feed::Partly, Feed::Noise, Feed::Silence], injected: true },
-    Plan { first: (Feed::Edges, 300), then: &[Feed::Edges, Feed::Numbers, Feed::Silence], injected: false },
+    Plan { first: (Feed::Edges, 300), then: &[Feed::Edges, Feed::Bottom, Feed::Numbers, Feed::Silence], injected: false },
     Plan { first: (Feed::Numbers, 200), then: &[Feed::Any, Feed::Numbers, Feed::Noise], injected: true },
 ];
 
@@ -37,7 +38,7 @@ pub const LENGTHS: [&[u16]; 6] = [
 const LEVELS: [[i32; 3]; 4] = [[48, 16, 65535], [40, 24, 96], [8, 40, 65535], [56, 8, 72]];
 
 /// The library's stores and marks, and floor.rs's bank and gate beside them.
-struct Both {
+pub struct Both {
     u: Vec<u16>,
     f: Vec<f64>,
     gate: Vec<u16>,
@@ -49,7 +50,7 @@ struct Both {
 }
 
 impl Both {
-    fn new(t: &mut Tally, n: usize, levels: [i32; 3], lengths: &[u16]) -> Both {
+    pub fn new(t: &mut Tally, n: usize, levels: [i32; 3], lengths: &[u16]) -> Both {
         let (old_bank, old_gate) = (FloorBank::new(n), Gate::made(n, levels, lengths));
         let ((mut u, mut f), (mut gate, mut gate_f)) = (old_bank.to_stores(), old_gate.to_stores());
         u.fill(77);
@@ -74,8 +75,9 @@ impl Both {
     fn compare_gate(&mut self, t: &mut Tally, what: Arguments, whole: bool) {
         t.words(what, &self.gate, &self.old_gate.words());
         let mut at = 0;
+        let last_ring = 3 * self.gate[5] as usize; // behind the lengths stand the pairs of R-3
         for (i, part) in self.old_gate.floats().into_iter().enumerate() {
-            if whole || i % 3 != 1 {
+            if whole || i % 3 != 1 || i > last_ring {
                 t.floats(what, &self.gate_f[at..at + part.len()], part);
             }
             at += part.len();
@@ -94,7 +96,7 @@ impl Both {
         }
     }
 
-    fn bank_update(&mut self, t: &mut Tally, what: Arguments, db: &[f64], power: &[f32], hold: Option<bool>) {
+    pub fn bank_update(&mut self, t: &mut Tally, what: Arguments, db: &[f64], power: &[f32], hold: Option<bool>) {
         let due = if self.u[1] == 0 && garbled(db) { 6 } else { 0 };
         t.answer(what, lib::bank_update(&mut self.u, &mut self.f, db, power, hold), due);
         if due == 0 {
@@ -103,7 +105,7 @@ impl Both {
         self.compare_bank(t, what);
     }
 
-    fn gate_update(&mut self, t: &mut Tally, what: Arguments, db: &[f64], power: &[f32], whole: bool) {
+    pub fn gate_update(&mut self, t: &mut Tally, what: Arguments, db: &[f64], power: &[f32], whole: bool) {
         let marks = (&mut self.rise[..], &mut self.drop[..]);
         let gate = (&mut self.gate[..], &mut self.gate_f[..]);
         t.answer(what, lib::gate_update((&self.u, &self.f), gate, (db, power), marks), 0);
@@ -112,21 +114,21 @@ impl Both {
         self.compare_gate(t, what, whole);
     }
 
-    fn gate_hold(&mut self, t: &mut Tally, what: Arguments) {
+    pub fn gate_hold(&mut self, t: &mut Tally, what: Arguments) {
         let marks = (&mut self.rise[..], &mut self.drop[..]);
-        t.answer(what, lib::gate_hold((&self.u, &self.f), (&self.gate, &self.gate_f), marks), 0);
+        t.answer(what, lib::gate_hold((&self.u, &self.f), (&self.gate, &mut self.gate_f), marks), 0);
         let due = self.old_gate.hold(&self.old_bank);
         self.compare_marks(t, what, due);
         self.compare_gate(t, what, false);
     }
 
-    fn readings(&self, t: &mut Tally, what: Arguments, k: usize) {
+    pub fn readings(&self, t: &mut Tally, what: Arguments, k: usize) {
         let c = Call { u: &self.u, f: &self.f, gate: &self.gate, gate_f: &self.gate_f, k, ..Call::default() };
         readings_of(t, what, &c, 0, Some(&self.old_bank));
         gate_readings_of(t, what, &c, [0, 0], Some(&self.old_gate), Some(&self.old_bank));
     }
 
-    /// Floats put into both f64 stores; now and then all smoothed dB of the gate become usual again.
+    /// Floats put into both f64 stores, untrue pairs among them; now and then all smoothed dB of the gate become usual again.
     fn inject(&mut self, rng: &mut Rng) {
         for store in [&mut self.f, &mut self.gate_f] {
             for _ in 0..1 + store.len().min(3000) / 9 {
@@ -134,6 +136,7 @@ impl Both {
                 store[i] = any_f64(rng);
             }
         }
+        pairs::put_untrue(&mut self.gate_f, &self.f[3 * self.rise.len()..], self.rise.len(), rng);
         if rng.one_in(3) {
             self.gate_f[..self.rise.len()].iter_mut().for_each(|x| *x = -110.0 + 50.0 * rng.unit());
         }

@@ -1,6 +1,6 @@
 // The kept list: calls with floor.rs's answers, for the program `replay` (README.md has the form).
 use crate::floor::{FloorBank, Gate, ABSENT};
-use crate::numbers::{any_f32, any_f64, edge, finite_f32, Rng};
+use crate::numbers::{any_f32, any_f64, edge, finite_f32, old_bottom, Rng, OLD_BOTTOM};
 use crate::rules::garbled;
 
 struct List {
@@ -14,13 +14,15 @@ struct List {
 }
 
 impl List {
-    /// The tables at the head: any floats, edges of bins, and noise; row 0 is digital silence.
+    /// The tables at the head: any floats, edges of bins, and noise, some of it below -140 dB; row 0 is digital silence.
     fn new(mut rng: Rng) -> List {
         let db = |i, rng: &mut Rng| match i {
             0 => -200.0,
             1 => f64::NAN,
-            2..=39 => edge(rng),
+            2..=21 => old_bottom(rng.below(OLD_BOTTOM)),
+            22..=39 => edge(rng),
             40..=79 => any_f64(rng),
+            200.. => -160.0 + 20.0 * rng.unit(),
             _ => -100.0 + 30.0 * rng.unit(),
         };
         let db: Vec<f64> = (0..256).map(|i| db(i, &mut rng)).collect();
@@ -181,7 +183,7 @@ impl List {
         self.stores(4, bank.to_stores());
         self.stores(10, gate.to_stores());
         let other = if n == 1 { 2 } else { n - 1 };
-        self.make_gate(other, 5 * other as usize, levels, &[1], 0);
+        self.make_gate(other, 7 * other as usize, levels, &[1], 0);
         self.gate(7, 8);
         self.gate(8, 8);
     }

@@ -9,6 +9,8 @@ pub struct Tally {
     pub drops: u64,
     /// pairs of histories whose floors, and whose rises, differed for a while
     pub parted: [u64; 2],
+    /// marks that untrue pairs gave, and the ladder would not
+    pub untrue: u64,
     pub compared: u64,
     pub differences: u64,
     pub first: Vec<String>,
@@ -56,6 +58,7 @@ impl Tally {
         self.rises += other.rises;
         self.drops += other.drops;
         (0..2).for_each(|i| self.parted[i] += other.parted[i]);
+        self.untrue += other.untrue;
         self.compared += other.compared;
         self.differences += other.differences;
         self.first.extend(other.first);

@@ -38,7 +38,7 @@ extern "C" {
         rise: *mut u8, rise_len: usize, drop: *mut u8, drop_len: usize,
     ) -> u16;
     fn wolfcloak_gate_hold(
-        b: *const u16, bl: usize, f: *const f64, fl: usize, g: *const u16, gl: usize, h: *const f64, hl: usize,
+        b: *const u16, bl: usize, f: *const f64, fl: usize, g: *const u16, gl: usize, h: *mut f64, hl: usize,
         rise: *mut u8, rise_len: usize, drop: *mut u8, drop_len: usize,
     ) -> u16;
     fn wolfcloak_smoothed_db(g: *const u16, gl: usize, h: *const f64, hl: usize, k: usize, value: *mut f64) -> u16;
@@ -121,11 +121,11 @@ pub fn gate_update(
     }
 }
 
-pub fn gate_hold(bank: (&[u16], &[f64]), gate: (&[u16], &[f64]), marks: (&mut [u8], &mut [u8])) -> u16 {
+pub fn gate_hold(bank: (&[u16], &[f64]), gate: (&[u16], &mut [f64]), marks: (&mut [u8], &mut [u8])) -> u16 {
     unsafe {
         wolfcloak_gate_hold(
             bank.0.as_ptr(), bank.0.len(), bank.1.as_ptr(), bank.1.len(),
-            gate.0.as_ptr(), gate.0.len(), gate.1.as_ptr(), gate.1.len(),
+            gate.0.as_ptr(), gate.0.len(), gate.1.as_mut_ptr(), gate.1.len(),
             marks.0.as_mut_ptr(), marks.0.len(), marks.1.as_mut_ptr(), marks.1.len(),
         )
     }

@@ -14,21 +14,25 @@ static void expect(const char *what, double got, double want)
     }
 }
 
-/* One channel: the raw floor before a push, and after one of -200. */
+/* The u16 stores of one and of two channels; and of one channel as it was before R-11. */
+enum { CHANNEL_LEN = 573, ONE = 3 + 1 + CHANNEL_LEN, TWO = 3 + 1 + 2 * CHANNEL_LEN, OLD_ONE = 3 + 1 + 533 };
+
+/* One channel: the raw floor before a push, and after one of -200; and a store from before. */
 static void bench_d(void)
 {
-    uint16_t bank[537]; /* 3 + 1 + 533 */
+    uint16_t bank[ONE];
     double bank_f[6], db = -200, value = 0;
     float power = 0;
 
-    expect("bank_len(1)", wolfcloak_bank_len(1), 537);
+    expect("bank_len(1)", wolfcloak_bank_len(1), ONE);
     expect("bank_f_len(1)", wolfcloak_bank_f_len(1), 6);
-    expect("bank_new", wolfcloak_bank_new(bank, 537, bank_f, 6, 1), WOLFCLOAK_OK);
-    expect("channel_floor_db", wolfcloak_channel_floor_db(bank, 537, bank_f, 6, 0, &value), WOLFCLOAK_OK);
-    expect("d, before a push", value, -140);
-    expect("bank_update", wolfcloak_bank_update(bank, 537, bank_f, 6, &db, 1, &power, 1), WOLFCLOAK_OK);
-    expect("channel_floor_db", wolfcloak_channel_floor_db(bank, 537, bank_f, 6, 0, &value), WOLFCLOAK_OK);
-    expect("d, after a push of -200", value, -139.75);
+    expect("bank_new", wolfcloak_bank_new(bank, ONE, bank_f, 6, 1), WOLFCLOAK_OK);
+    expect("channel_floor_db", wolfcloak_channel_floor_db(bank, ONE, bank_f, 6, 0, &value), WOLFCLOAK_OK);
+    expect("d, before a push", value, -160);
+    expect("bank_update", wolfcloak_bank_update(bank, ONE, bank_f, 6, &db, 1, &power, 1), WOLFCLOAK_OK);
+    expect("channel_floor_db", wolfcloak_channel_floor_db(bank, ONE, bank_f, 6, 0, &value), WOLFCLOAK_OK);
+    expect("d, after a push of -200", value, -159.75);
+    expect("a store from before", wolfcloak_channel_floor_db(bank, OLD_ONE, bank_f, 6, 0, &value), WOLFCLOAK_REFUSED_STORE_SIZE);
 }
 
 /* Two channels, one hop of -100 and -60. */
@@ -58,16 +62,16 @@ static void bench_h(void)
     expect("spectral_reference", wolfcloak_spectral_reference(bank, len, bank_f, f_len, 1, &value), WOLFCLOAK_OK);
     expect("spectral reference of the second", value, (double)power[0] + 1e-20);
     expect("ring", wolfcloak_ring(bank, len, bank_f, f_len, 1, &start, &count), WOLFCLOAK_OK);
-    expect("ring's start", start, 3 + 1 + 533);
+    expect("ring's start", start, 3 + 1 + CHANNEL_LEN);
     expect("ring's length", count, 250);
-    expect("bin of -60", bank[start], 160);
+    expect("bin of -60", bank[start], 200);
     expect("a channel too many", wolfcloak_ring(bank, len, bank_f, f_len, 2, &start, &count), WOLFCLOAK_REFUSED_CHANNEL);
     free(bank);
     free(bank_f);
 }
 
 /* A bank of two channels that has heard noise of -100 dB, and the hops that the gates below hear: a strong tone in the second. */
-static uint16_t bank[1070]; /* 3 + 1 + 2 * 533 */
+static uint16_t bank[TWO];
 static double bank_f[10];
 static const double tone_db[2] = {-100, -60};
 static const float tone[2] = {1e-10f, 1e-6f};
@@ -77,8 +81,8 @@ static void hear_noise(void)
     static const double db[2] = {-100, -100};
     static const float power[2] = {1e-10f, 1e-10f};
 
-    expect("bank_new", wolfcloak_bank_new(bank, 1070, bank_f, 10, 2), WOLFCLOAK_OK);
-    expect("bank_update", wolfcloak_bank_update(bank, 1070, bank_f, 10, db, 2, power, 2), WOLFCLOAK_OK);
+    expect("bank_new", wolfcloak_bank_new(bank, TWO, bank_f, 10, 2), WOLFCLOAK_OK);
+    expect("bank_update", wolfcloak_bank_update(bank, TWO, bank_f, 10, db, 2, power, 2), WOLFCLOAK_OK);
 }
 
 static void expect_marks(const char *what, const uint8_t *marks, int first, int second)
@@ -92,29 +96,29 @@ static void window_rise(void)
 {
     static const uint16_t lengths[2] = {2, 2};
     uint16_t gate[WOLFCLOAK_GATE_LEN];
-    double gate_f[14], value = 0; /* 2 + (8 + 2 + 2), once */
+    double gate_f[18], value = 0; /* 2 + (8 + 2 + 2), once, + 2 + 2 */
     uint8_t rise[2] = {9, 9}, drop[2] = {9, 9};
 
-    expect("gate_f_len", wolfcloak_gate_f_len(2, lengths, 2), 14);
-    expect("gate_new", wolfcloak_gate_new(gate, 30, gate_f, 14, 2, 48, 16, WOLFCLOAK_NO_EARLY, lengths, 2), WOLFCLOAK_OK);
-    expect("gate_hold", wolfcloak_gate_hold(bank, 1070, bank_f, 10, gate, 30, gate_f, 14, rise, 2, drop, 2), WOLFCLOAK_OK);
+    expect("gate_f_len", wolfcloak_gate_f_len(2, lengths, 2), 18);
+    expect("gate_new", wolfcloak_gate_new(gate, 30, gate_f, 18, 2, 48, 16, WOLFCLOAK_NO_EARLY, lengths, 2), WOLFCLOAK_OK);
+    expect("gate_hold", wolfcloak_gate_hold(bank, TWO, bank_f, 10, gate, 30, gate_f, 18, rise, 2, drop, 2), WOLFCLOAK_OK);
     expect_marks("rise before the first hop", rise, 0, 0);
     expect_marks("drop before the first hop", drop, 0, 0);
     for (int hop = 1; hop <= 4; hop++) {
-        expect("gate_update", wolfcloak_gate_update(bank, 1070, bank_f, 10, gate, 30, gate_f, 14, tone_db, 2, tone, 2,
+        expect("gate_update", wolfcloak_gate_update(bank, TWO, bank_f, 10, gate, 30, gate_f, 18, tone_db, 2, tone, 2,
                                                     rise, 2, drop, 2), WOLFCLOAK_OK);
         expect_marks("window rise", rise, 0, hop == 4);
         expect_marks("drop", drop, 1, 0);
     }
     rise[1] = 9;
-    expect("gate_hold", wolfcloak_gate_hold(bank, 1070, bank_f, 10, gate, 30, gate_f, 14, rise, 2, drop, 2), WOLFCLOAK_OK);
+    expect("gate_hold", wolfcloak_gate_hold(bank, TWO, bank_f, 10, gate, 30, gate_f, 18, rise, 2, drop, 2), WOLFCLOAK_OK);
     expect_marks("rise of a hold", rise, 0, 1);
-    expect("smoothed_db", wolfcloak_smoothed_db(gate, 30, gate_f, 14, 1, &value), WOLFCLOAK_OK);
+    expect("smoothed_db", wolfcloak_smoothed_db(gate, 30, gate_f, 18, 1, &value), WOLFCLOAK_OK);
     expect("smoothed dB of the tone", value, -60);
-    expect("ema_rise", wolfcloak_ema_rise(bank, 1070, bank_f, 10, gate, 30, gate_f, 14, 1, &value), WOLFCLOAK_OK);
+    expect("ema_rise", wolfcloak_ema_rise(bank, TWO, bank_f, 10, gate, 30, gate_f, 18, 1, &value), WOLFCLOAK_OK);
     expect("early rise that is absent", value, 0);
-    expect("a channel too many", wolfcloak_smoothed_db(gate, 30, gate_f, 14, 2, &value), WOLFCLOAK_REFUSED_CHANNEL);
-    expect("a rise too short", wolfcloak_gate_hold(bank, 1070, bank_f, 10, gate, 30, gate_f, 14, rise, 1, drop, 2),
+    expect("a channel too many", wolfcloak_smoothed_db(gate, 30, gate_f, 18, 2, &value), WOLFCLOAK_REFUSED_CHANNEL);
+    expect("a rise too short", wolfcloak_gate_hold(bank, TWO, bank_f, 10, gate, 30, gate_f, 18, rise, 1, drop, 2),
            WOLFCLOAK_REFUSED_HOP_SIZE);
 }
 
@@ -123,22 +127,22 @@ static void early_rise(void)
 {
     static const uint16_t lengths[1] = {1}, none[1] = {0};
     uint16_t gate[WOLFCLOAK_GATE_LEN];
-    double gate_f[10], other_f[5], value = 7; /* 2 + (4 + 2 + 2), 1 + (2 + 1 + 1) */
+    double gate_f[14], other_f[7], value = 7; /* 2 + (4 + 2 + 2) + 2 + 2, 1 + (2 + 1 + 1) + 1 + 1 */
     uint8_t rise[2], drop[2];
 
-    expect("gate_new", wolfcloak_gate_new(gate, 30, gate_f, 10, 2, 800, -800, 80, lengths, 1), WOLFCLOAK_OK);
-    expect("ema_rise", wolfcloak_ema_rise(bank, 1070, bank_f, 10, gate, 30, gate_f, 10, 1, &value), WOLFCLOAK_OK);
+    expect("gate_new", wolfcloak_gate_new(gate, 30, gate_f, 14, 2, 800, -800, 80, lengths, 1), WOLFCLOAK_OK);
+    expect("ema_rise", wolfcloak_ema_rise(bank, TWO, bank_f, 10, gate, 30, gate_f, 14, 1, &value), WOLFCLOAK_OK);
     expect("early rise before the first hop", value, 0);
-    expect("gate_update", wolfcloak_gate_update(bank, 1070, bank_f, 10, gate, 30, gate_f, 10, tone_db, 2, tone, 2,
+    expect("gate_update", wolfcloak_gate_update(bank, TWO, bank_f, 10, gate, 30, gate_f, 14, tone_db, 2, tone, 2,
                                                 rise, 2, drop, 2), WOLFCLOAK_OK);
     expect_marks("early rise", rise, 0, 1);
     expect_marks("drop far below", drop, 0, 0);
-    expect("ema_rise", wolfcloak_ema_rise(bank, 1070, bank_f, 10, gate, 30, gate_f, 10, 1, &value), WOLFCLOAK_OK);
+    expect("ema_rise", wolfcloak_ema_rise(bank, TWO, bank_f, 10, gate, 30, gate_f, 14, 1, &value), WOLFCLOAK_OK);
     expect("early rise alone", value, 1);
-    expect("no lengths", wolfcloak_gate_new(gate, 30, gate_f, 10, 2, 801, 0, 0, none, 0), WOLFCLOAK_REFUSED_LENGTHS);
-    expect("a level too high", wolfcloak_gate_new(gate, 30, gate_f, 10, 2, 801, 0, 0, lengths, 1), WOLFCLOAK_REFUSED_LEVEL);
-    expect("gate_new", wolfcloak_gate_new(gate, 30, other_f, 5, 1, 0, 0, 0, lengths, 1), WOLFCLOAK_OK);
-    expect("a gate of another n", wolfcloak_gate_hold(bank, 1070, bank_f, 10, gate, 30, other_f, 5, rise, 2, drop, 2),
+    expect("no lengths", wolfcloak_gate_new(gate, 30, gate_f, 14, 2, 801, 0, 0, none, 0), WOLFCLOAK_REFUSED_LENGTHS);
+    expect("a level too high", wolfcloak_gate_new(gate, 30, gate_f, 14, 2, 801, 0, 0, lengths, 1), WOLFCLOAK_REFUSED_LEVEL);
+    expect("gate_new", wolfcloak_gate_new(gate, 30, other_f, 7, 1, 0, 0, 0, lengths, 1), WOLFCLOAK_OK);
+    expect("a gate of another n", wolfcloak_gate_hold(bank, TWO, bank_f, 10, gate, 30, other_f, 7, rise, 2, drop, 2),
            WOLFCLOAK_REFUSED_MISMATCH);
 }
 

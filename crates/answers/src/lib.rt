@@ -1,6 +1,7 @@
 // A reading taken apart for C: the answer's number, and what is written behind the caller's references, only where the number is 0.
 ghost use mathlib.Core.Path.{_≡_};
 ghost use Rattle.answers.specs.Answers.{answered, floorsAnswered, ringAnswered};
+use model::layout::RING_LEN;
 
 // A reading's number, its value written only if it has one.
 pub fn value_answer(reading: model::Reading, value: &mut f64) -> u16
@@ -54,6 +55,6 @@ pub fn ring_answer(
         return no;
     }
     *start = channel_readings::ring_start(bank, k);
-    *len = 250;
+    *len = RING_LEN;
     0
 }

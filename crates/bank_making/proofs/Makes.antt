@@ -12,7 +12,8 @@ use Rattle.laws.proofs.Lists.{splice-mid}
 use Rattle.laws.proofs.Tabs.{fill-turns}
 use Rattle.model.specs.Bank.{blocks, freshChannel, freshBank}
 use Rattle.model.specs.Stores.{chanU, bankU, bankF, bankLen, bankFLen}
-use Rattle.model.specs.Numbers.{f0, histMin, freshPower}
+use Rattle.model.specs.Numbers.{f0}
+use Rattle.model.specs.Layout.{histMin, bins, freshPower, ringLen, channelLen}
 use Rattle.model.specs.Refusals.{makeRefusal}
 use Rattle.model.specs.Calls.{leaves, bankNew}
 use Rattle.store_sizes.specs.Checks.{sizeRefusal}
@@ -55,20 +56,20 @@ noughts k = replicate k 0
 zeros : (R K : ℕ) → noughts R ++ (noughts K ++ (0 ∷ 0 ∷ 0 ∷ [])) ≡ noughts (R + (K + 3))
 zeros R K = ap (λ (r : List ℕ). noughts R ++ r) (replicate-append-replicate K 3 0) ∙ replicate-append-replicate R (K + 3) 0
 
-chan-zeros : chanU freshChannel ≡ noughts 533
+chan-zeros : chanU freshChannel ≡ noughts channelLen
 unfolding freshChannel
-chan-zeros = zeros 250 280
+chan-zeros = zeros ringLen bins
 
-chans-zeros : (n : ℕ) → joined (map chanU (replicate n freshChannel)) ≡ noughts (533 * n)
+chans-zeros : (n : ℕ) → joined (map chanU (replicate n freshChannel)) ≡ noughts (channelLen * n)
 chans-zeros n =
-    ap joined (map-replicate chanU n freshChannel ∙ ap (λ (c : List ℕ). replicate n c) chan-zeros) ∙ joined-replicate 533 n 0
+    ap joined (map-replicate chanU n freshChannel ∙ ap (λ (c : List ℕ). replicate n c) chan-zeros) ∙ joined-replicate channelLen n 0
 
 pub fresh-u : (n : ℕ) (l : List ℕ) → l ≡ noughts (bankLen n) → set l 0 n ≡ bankU (freshBank n)
 unfolding freshBank
 fresh-u n l e =
-    ap (λ (r : List ℕ). set r 0 n) (e ∙ ap noughts (let z : bankLen n ≡ suc (suc (suc (blocks n + 533 * n))) = omega arith in z))
+    ap (λ (r : List ℕ). set r 0 n) (e ∙ ap noughts (let z : bankLen n ≡ suc (suc (suc (blocks n + channelLen * n))) = omega arith in z))
     ∙ ap (λ (r : List ℕ). n ∷ 0 ∷ 0 ∷ r)
-    (sym (replicate-append-replicate (blocks n) (533 * n) 0) ∙ ap (λ (r : List ℕ). noughts (blocks n) ++ r) (sym (chans-zeros n)))
+    (sym (replicate-append-replicate (blocks n) (channelLen * n) 0) ∙ ap (λ (r : List ℕ). noughts (blocks n) ++ r) (sym (chans-zeros n)))
 
 -- ---- the f64 store: n channels in b blocks, floors h, powers p, sums z
 

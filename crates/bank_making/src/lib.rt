@@ -1,4 +1,4 @@
-// A fresh bank: floors -140, smoothed the literal 1e-14, the rest 0.
+// A fresh bank: floors at the bottom, smoothed the literal FRESH_POWER, the rest 0.
 ghost use mathlib.Core.Path.{_≡_};
 ghost use Prim.Native.Nat.{_+_, _≤_};
 ghost use lib.ListN.{length, replicate};
@@ -6,6 +6,8 @@ ghost use Rattle.laws.specs.Lists.{splice};
 ghost use Rattle.model.specs.Bank.{freshBank};
 ghost use Rattle.model.specs.Stores.{bankU, bankF, bankLen, bankFLen};
 ghost use Rattle.model.specs.Calls.{bankNew};
+use model::layout::FRESH_POWER;
+use model::layout::HIST_MIN_DB;
 
 pub fn zero(s: &mut [u16])
     ensures { λ _. ⌜ now (s .exit) ≡ replicate (length (now (s .entry))) 0 ⌝ }
@@ -41,8 +43,8 @@ fn fresh_f(bank_f: &mut [f64], n: usize)
     ensures { λ _. ⌜ now («bank_f» .exit) ≡ bankF (freshBank n) ⌝ }
 {
     let b = store_sizes::blocks(n);
-    fill(bank_f, 0, 4 * n + b, -140.0);
-    fill(bank_f, 2 * n, n, 1e-14);
+    fill(bank_f, 0, 4 * n + b, HIST_MIN_DB);
+    fill(bank_f, 2 * n, n, FRESH_POWER);
     fill(bank_f, 4 * n + b, b, 0.0);
 }
 

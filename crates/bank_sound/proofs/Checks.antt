@@ -15,6 +15,7 @@ use Rattle.laws.proofs.Counting.{one-le, occ-step, occ-all, occ-none}
 use Rattle.laws.specs.Tests.{allBelow}
 use Rattle.laws.proofs.Lists.{getD-part}
 use Rattle.laws.proofs.Tests.{by-test, all-at, and-l, and-r, and-true, and-false-l, and-false-r}
+use Rattle.model.specs.Layout.{bins, ringLen, atCounts, atNext, atFilled, atLead}
 use Rattle.model.specs.Stores.{chanOf, soundFields, soundRing, soundCounts, soundChannel}
 use Rattle.bank_sound.specs.Fails.{fails, isBin, strayEntries, isFirst, otherEntries, ofOneBin, isTallied, wrongCounts}
 
@@ -53,16 +54,16 @@ all-same (suc n) p q h = ap₂ _&&_ (all-same n p q (λ i l. h i (omega arith)))
 
 -- ---- the ring
 
-pub entry-below : (l : List ℕ) (i : ℕ) → strayEntries l ≡ 0 → i < 250 → getD l i 0 < 280
+pub entry-below : (l : List ℕ) (i : ℕ) → strayEntries l ≡ 0 → i < ringLen → getD l i 0 < bins
 unfolding strayEntries
-entry-below l i h k = ltb-true (getD l i 0) 280 (all-at (isBin l) 250 i (sym (none-fails 250 (isBin l)) ∙ eq-eqb (fails 250 (isBin l)) 0 h) k)
+entry-below l i h k = ltb-true (getD l i 0) bins (all-at (isBin l) ringLen i (sym (none-fails ringLen (isBin l)) ∙ eq-eqb (fails ringLen (isBin l)) 0 h) k)
 
 pub ring-sound : (l : List ℕ) → eqb (strayEntries l) 0 ≡ soundRing (chanOf l)
 unfolding strayEntries soundRing
 ring-sound l =
-    none-fails 250 (isBin l)
-    ∙ all-same 250 (isBin l) (λ i. ltb (getD (part 0 250 l) i 0) 280)
-    (λ i h. ap (λ (x : ℕ). ltb x 280) (sym (getD-part 0 250 l i 0 h ∙ ap (λ (k : ℕ). getD l k 0) (zero-add i))))
+    none-fails ringLen (isBin l)
+    ∙ all-same ringLen (isBin l) (λ i. ltb (getD (part 0 ringLen l) i 0) bins)
+    (λ i h. ap (λ (x : ℕ). ltb x bins) (sym (getD-part 0 ringLen l i 0 h ∙ ap (λ (k : ℕ). getD l k 0) (zero-add i))))
 
 -- ---- the recount
 
@@ -83,7 +84,7 @@ tally-more n l t i lt h g all b k =
 same-entry : (n : ℕ) (l : List ℕ) (i : ℕ) → ofOneBin n l ≡ true → i < n → getD l i 0 ≡ getD l 0 0
 unfolding ofOneBin otherEntries
 same-entry n l i h k =
-    eqb-true (getD l i 0) (getD l 0 0) (all-at (isFirst l) n i (sym (none-fails n (isFirst l)) ∙ and-r (eqb (getD l (250 + getD l 0 0) 0) n) (eqb (fails n (isFirst l)) 0) h) k)
+    eqb-true (getD l i 0) (getD l 0 0) (all-at (isFirst l) n i (sym (none-fails n (isFirst l)) ∙ and-r (eqb (getD l (atCounts + getD l 0 0) 0) n) (eqb (fails n (isFirst l)) 0) h) k)
 
 pub tally-one : (m n : ℕ) (l : List ℕ) → getD l 0 0 < m → n ≤ length l → ofOneBin n l ≡ true
     → (b : ℕ) → b < m → getD (set (replicate {A = ℕ} m 0) (getD l 0 0) n) b 0 ≡ occ b (take n l)
@@ -97,32 +98,32 @@ tally-one m n l g h o b k =
     (λ e.
     getD-set-other t x b n 0 (eqb-false b x e) ∙ getD-replicate m b 0 0 k ∙ sym (occ-none b x l n (eqb-false b x e) h (λ i. same-entry n l i o)))
 
-pub counts-sound : (l t : List ℕ) → getD l 531 0 ≤ 250 → ((b : ℕ) → b < 280 → getD t b 0 ≡ occ b (take (getD l 531 0) l))
+pub counts-sound : (l t : List ℕ) → getD l atFilled 0 ≤ ringLen → ((b : ℕ) → b < bins → getD t b 0 ≡ occ b (take (getD l atFilled 0) l))
     → eqb (wrongCounts l t) 0 ≡ soundCounts (chanOf l)
 unfolding wrongCounts soundCounts
 counts-sound l t h tallied =
-    none-fails 280 (isTallied l t)
-    ∙ all-same 280 (isTallied l t) (λ b. eqb (getD (part 250 280 l) b 0) (occ b (take (getD l 531 0) (part 0 250 l))))
-    (λ b k. ap₂ eqb (sym (getD-part 250 280 l b 0 k)) (tallied b k ∙ ap (occ b) (sym (take-take (getD l 531 0) 250 l h))))
+    none-fails bins (isTallied l t)
+    ∙ all-same bins (isTallied l t) (λ b. eqb (getD (part atCounts bins l) b 0) (occ b (take (getD l atFilled 0) (part 0 ringLen l))))
+    (λ b k. ap₂ eqb (sym (getD-part atCounts bins l b 0 k)) (tallied b k ∙ ap (occ b) (sym (take-take (getD l atFilled 0) ringLen l h))))
 
 -- ---- the channel, by the first test that fails
 
 abbrev pub fieldsOf : List ℕ → Bool
-fieldsOf l = soundFields (getD l 530 0) (getD l 531 0) (getD l 532 0) (getD l 250 0)
+fieldsOf l = soundFields (getD l atNext 0) (getD l atFilled 0) (getD l atLead 0) (getD l atCounts 0)
 
 channel-is : (l : List ℕ) → (fieldsOf l && soundRing (chanOf l) && soundCounts (chanOf l)) ≡ soundChannel (chanOf l)
 unfolding soundChannel
 channel-is l =
-    ap (λ (z : ℕ). soundFields (getD l 530 0) (getD l 531 0) (getD l 532 0) z && soundRing (chanOf l) && soundCounts (chanOf l))
-    (sym (getD-part 250 280 l 0 0 (omega arith)))
+    ap (λ (z : ℕ). soundFields (getD l atNext 0) (getD l atFilled 0) (getD l atLead 0) z && soundRing (chanOf l) && soundCounts (chanOf l))
+    (sym (getD-part atCounts bins l 0 0 (omega arith)))
 
 -- what sound fields say of filled
-pub fields-filled : (l : List ℕ) → fieldsOf l ≡ true → getD l 531 0 ≤ 250
+pub fields-filled : (l : List ℕ) → fieldsOf l ≡ true → getD l atFilled 0 ≤ ringLen
 fields-filled l h =
-    let n = ltb (getD l 530 0) 250 in
-    let f = leb (getD l 531 0) 250 in
-    let q = cond (ltb (getD l 531 0) 250) (eqb (getD l 530 0) (getD l 531 0)) true in
-    leb-true (getD l 531 0) 250 (and-r n f (and-l (n && f) q (and-l (n && f && q) (leb (getD l 532 0) (getD l 250 0)) h)))
+    let n = ltb (getD l atNext 0) ringLen in
+    let f = leb (getD l atFilled 0) ringLen in
+    let q = cond (ltb (getD l atFilled 0) ringLen) (eqb (getD l atNext 0) (getD l atFilled 0)) true in
+    leb-true (getD l atFilled 0) ringLen (and-r n f (and-l (n && f) q (and-l (n && f && q) (leb (getD l atLead 0) (getD l atCounts 0)) h)))
 
 module _ (l : List ℕ) where
   pub fields-fail : fieldsOf l ≡ false → false ≡ soundChannel (chanOf l)

@@ -5,6 +5,7 @@ use Prim.Native.Nat.{ℕ, zero, suc, _+_}
 use lib.Dec.{eqb, ltb}
 use lib.ListN.{getD}
 use Rattle.laws.specs.Lists.{one}
+use Rattle.model.specs.Layout.{bins, ringLen, atCounts}
 
 -- of how many numbers below n the test fails
 unfoldable pub fails : ℕ → (ℕ → Bool) → ℕ
@@ -13,10 +14,10 @@ fails (suc n) p = fails n p + one (not (p n))
 
 -- the entries of a channel's ring that are no bins
 abbrev pub isBin : List ℕ → ℕ → Bool
-isBin l i = ltb (getD l i 0) 280
+isBin l i = ltb (getD l i 0) bins
 
 unfoldable pub strayEntries : List ℕ → ℕ
-strayEntries l = fails 250 (isBin l)
+strayEntries l = fails ringLen (isBin l)
 
 -- the entries among the first n that differ from the first
 abbrev pub isFirst : List ℕ → ℕ → Bool
@@ -27,11 +28,11 @@ otherEntries n l = fails n (isFirst l)
 
 -- the first entry's bin has the count n, and the first n entries are all it
 unfoldable pub ofOneBin : ℕ → List ℕ → Bool
-ofOneBin n l = eqb (getD l (250 + getD l 0 0) 0) n && eqb (otherEntries n l) 0
+ofOneBin n l = eqb (getD l (atCounts + getD l 0 0) 0) n && eqb (otherEntries n l) 0
 
 -- the counts of a channel that differ from a tally
 abbrev pub isTallied : List ℕ → List ℕ → ℕ → Bool
-isTallied l t b = eqb (getD l (250 + b) 0) (getD t b 0)
+isTallied l t b = eqb (getD l (atCounts + b) 0) (getD t b 0)
 
 unfoldable pub wrongCounts : List ℕ → List ℕ → ℕ
-wrongCounts l t = fails 280 (isTallied l t)
+wrongCounts l t = fails bins (isTallied l t)

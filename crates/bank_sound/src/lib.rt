@@ -6,19 +6,28 @@ ghost use Prim.Native.Nat.{ℕ, _≤_, _<_};
 ghost use lib.Dec.{ltb, eqb};
 ghost use lib.ListN.{length, getD, take};
 ghost use Rattle.laws.specs.Lists.{one, occ};
+ghost use Rattle.model.specs.Layout.{bins, ringLen, atFilled, channelLen};
 ghost use Rattle.model.specs.Stores.{chanOf, soundFields, soundCounts, soundChannel};
 ghost use Rattle.bank_sound.specs.Fails.{strayEntries, otherEntries, ofOneBin, wrongCounts};
+use model::layout::BINS;
+use model::layout::BINS_U16;
+use model::layout::COUNTS;
+use model::layout::FILLED;
+use model::layout::LEAD;
+use model::layout::NEXT;
+use model::layout::RING_LEN;
+use model::layout::RING_LEN_U16;
 
 fn fields_sound(next: u16, filled: u16, lead: u16, zeros: u16) -> bool
     ensures { λ r. ⌜ r ≡ soundFields next filled lead zeros ⌝ }
 {
-    if next >= 250 {
+    if next >= RING_LEN_U16 {
         return false;
     }
-    if filled > 250 {
+    if filled > RING_LEN_U16 {
         return false;
     }
-    if filled == 250 {
+    if filled == RING_LEN_U16 {
         return lead <= zeros;
     }
     if next != filled {
@@ -28,9 +37,9 @@ fn fields_sound(next: u16, filled: u16, lead: u16, zeros: u16) -> bool
 }
 
 fn one_if_no_bin(x: u16) -> u16
-    ensures { λ r. ⌜ r ≡ one (not (ltb x 280)) ⌝ }
+    ensures { λ r. ⌜ r ≡ one (not (ltb x bins)) ⌝ }
 {
-    if x < 280 {
+    if x < BINS_U16 {
         return 0;
     }
     1
@@ -47,12 +56,12 @@ fn one_if_differs(a: u16, b: u16) -> u16
 
 // How many entries of the ring are no bins.
 fn stray_entries(chan: &[u16]) -> u16
-    requires { ⌜ length (now chan) ≡ 533 ⌝ }
+    requires { ⌜ length (now chan) ≡ channelLen ⌝ }
     ensures { λ r. ⌜ r ≡ strayEntries (now (chan .entry)) ⌝ }
 {
     let mut stray: u16 = 0;
     let mut i: usize = 0;
-    while i < 250 {
+    while i < RING_LEN {
         stray += one_if_no_bin(chan[i]);
         i += 1;
     }
@@ -61,7 +70,7 @@ fn stray_entries(chan: &[u16]) -> u16
 
 // How many of the filled places hold another bin than the first place.
 fn other_entries(chan: &[u16], filled: usize) -> u16
-    requires { ⌜ (filled ≤ 250) × (length (now chan) ≡ 533) ⌝ }
+    requires { ⌜ (filled ≤ ringLen) × (length (now chan) ≡ channelLen) ⌝ }
     ensures { λ r. ⌜ r ≡ otherEntries filled (now (chan .entry)) ⌝ }
 {
     let first = chan[0];
@@ -76,12 +85,12 @@ fn other_entries(chan: &[u16], filled: usize) -> u16
 
 // Whether the filled places hold one bin alone, and its stored count says so. The count is asked first: for most rings one look is all.
 fn of_one_bin(chan: &[u16], filled: usize) -> bool
-    requires { ⌜ (filled ≤ 250) × (length (now chan) ≡ 533) ⌝ }
+    requires { ⌜ (filled ≤ ringLen) × (length (now chan) ≡ channelLen) ⌝ }
     requires { ⌜ strayEntries (now chan) ≡ 0 ⌝ }
     ensures { λ r. ⌜ r ≡ ofOneBin filled (now (chan .entry)) ⌝ }
 {
     let first = chan[0] as usize;
-    if chan[250 + first] != filled as u16 {
+    if chan[COUNTS + first] != filled as u16 {
         return false;
     }
     other_entries(chan, filled) == 0
@@ -89,12 +98,12 @@ fn of_one_bin(chan: &[u16], filled: usize) -> bool
 
 // How often each bin stands in the filled places. A ring of one bin, as silence or a steady tone leaves it, is not counted: each step
 // would wait for what the step before has stored.
-fn tally(chan: &[u16], filled: usize) -> [u16; 280]
-    requires { ⌜ (filled ≤ 250) × (length (now chan) ≡ 533) ⌝ }
+fn tally(chan: &[u16], filled: usize) -> [u16; BINS]
+    requires { ⌜ (filled ≤ ringLen) × (length (now chan) ≡ channelLen) ⌝ }
     requires { ⌜ strayEntries (now chan) ≡ 0 ⌝ }
-    ensures { λ r. ⌜ ((b : ℕ) → b < 280 → getD r b 0 ≡ occ b (take filled (now (chan .entry)))) ⌝ }
+    ensures { λ r. ⌜ ((b : ℕ) → b < bins → getD r b 0 ≡ occ b (take filled (now (chan .entry)))) ⌝ }
 {
-    let mut t = [0u16; 280];
+    let mut t = [0u16; BINS];
     if of_one_bin(chan, filled) {
         let first = chan[0] as usize;
         t[first] = filled as u16;
@@ -110,21 +119,21 @@ fn tally(chan: &[u16], filled: usize) -> [u16; 280]
 }
 
 // How many counts of the channel the tally does not bear out.
-fn wrong_counts(chan: &[u16], t: &[u16; 280]) -> u16
-    requires { ⌜ length (now chan) ≡ 533 ⌝ }
+fn wrong_counts(chan: &[u16], t: &[u16; BINS]) -> u16
+    requires { ⌜ length (now chan) ≡ channelLen ⌝ }
     ensures { λ r. ⌜ r ≡ wrongCounts (now (chan .entry)) (now (t .entry)) ⌝ }
 {
     let mut wrong: u16 = 0;
     let mut b: usize = 0;
-    while b < 280 {
-        wrong += one_if_differs(chan[250 + b], t[b]);
+    while b < BINS {
+        wrong += one_if_differs(chan[COUNTS + b], t[b]);
         b += 1;
     }
     wrong
 }
 
 fn counts_sound(chan: &[u16], filled: u16) -> bool
-    requires { ⌜ (length (now chan) ≡ 533) × (filled ≡ getD (now chan) 531 0) × (filled ≤ 250) ⌝ }
+    requires { ⌜ (length (now chan) ≡ channelLen) × (filled ≡ getD (now chan) atFilled 0) × (filled ≤ ringLen) ⌝ }
     requires { ⌜ strayEntries (now chan) ≡ 0 ⌝ }
     ensures { λ r. ⌜ r ≡ soundCounts (chanOf (now (chan .entry))) ⌝ }
 {
@@ -133,11 +142,11 @@ fn counts_sound(chan: &[u16], filled: u16) -> bool
 }
 
 pub fn channel_sound(chan: &[u16]) -> bool
-    requires { ⌜ length (now chan) ≡ 533 ⌝ }
+    requires { ⌜ length (now chan) ≡ channelLen ⌝ }
     ensures { λ r. ⌜ r ≡ soundChannel (chanOf (now (chan .entry))) ⌝ }
 {
-    let filled = chan[531];
-    if !fields_sound(chan[530], filled, chan[532], chan[250]) {
+    let filled = chan[FILLED];
+    if !fields_sound(chan[NEXT], filled, chan[LEAD], chan[COUNTS]) {
         return false;
     }
     if stray_entries(chan) != 0 {

@@ -13,6 +13,7 @@ use Rattle.laws.proofs.Tabs.{getD-tab, tab-same, tab-ext, tab-getD, length-join
 use Rattle.laws.proofs.Defaults.{getD-any}
 use Rattle.block.specs.Seeds.{Seedable, Seeded, pushesAt, sumAt}
 use Rattle.model.specs.Numbers.{f0, powerLinear, smoothed}
+use Rattle.model.specs.Layout.{bins, ringLen, atFilled, atLead, channelLen, blockChannels}
 use Rattle.model.specs.Ring.{binOf, pushIn, rawFloor, usableFloor, since, entries}
 use Rattle.model.specs.Bank.{FloorBank, hop, powerAfter, smoothAfter, seedsAfter, sumsAfter, block, blocks, median, riseFloor, channel, channelAfter, chansAfter, freshChannel, rawFloors, usableFloors, blockFloors, riseFloors}
 use Rattle.model.specs.Stores.{chanU, chanOf, chanPart, base, bankU, bankF, bankOf, bankLen, bankFLen}
@@ -34,7 +35,7 @@ pub record Fits (u : List ℕ) (f : List Float) (n : ℕ) : Type 0 where
   pub few : n ≤ 512
   pub long : length u ≡ bankLen n
   pub long-f : length f ≡ bankFLen n
-  pub sound : (k : ℕ) → k < n → Sound 250 280 (chanOf (chanPart n u k))
+  pub sound : (k : ℕ) → k < n → Sound ringLen bins (chanOf (chanPart n u k))
 
 pub n-of : (u : List ℕ) (f : List Float) → bankOf u f .n ≡ getD u 0 0
 unfolding bankOf
@@ -53,20 +54,20 @@ fits u f n r e =
       few = rw (n-of u f) at (r .good .high);
       long = r .long;
       long-f = r .long-f;
-      sound = λ k h. subst (Sound 250 280) (channel-of u f k h) (r .good .sound k (subst (λ (m : ℕ). k < m) (sym (n-of u f)) h));
+      sound = λ k h. subst (Sound ringLen bins) (channel-of u f k h) (r .good .sound k (subst (λ (m : ℕ). k < m) (sym (n-of u f)) h));
     })
 
 module _ (u : List ℕ) (f : List Float) (n : ℕ) (s : Fits u f n) (k : ℕ) (h : k < n) where
   -- the part that is lent of channel k
-  pub lent-long : base n + 533 * k + 533 ≤ length u
-  lent-long = omega (arith, s .long, row 533 k n h)
+  pub lent-long : base n + channelLen * k + channelLen ≤ length u
+  lent-long = omega (arith, s .long, row channelLen k n h)
 
-  pub lent : (length (part (base n + 533 * k) (base n + 533 * k + 533 - (base n + 533 * k)) u) ≡ 533)
-      × Sound 250 280 (chanOf (part (base n + 533 * k) (base n + 533 * k + 533 - (base n + 533 * k)) u))
-  lent = rw (width (base n + 533 * k) 533) (length-part (base n + 533 * k) 533 u lent-long, s .sound k h)
+  pub lent : (length (part (base n + channelLen * k) (base n + channelLen * k + channelLen - (base n + channelLen * k)) u) ≡ channelLen)
+      × Sound ringLen bins (chanOf (part (base n + channelLen * k) (base n + channelLen * k + channelLen - (base n + channelLen * k)) u))
+  lent = rw (width (base n + channelLen * k) channelLen) (length-part (base n + channelLen * k) channelLen u lent-long, s .sound k h)
 
   -- lead is at most filled
-  pub lead-filled : getD u (base n + 533 * k + 532) 0 ≤ getD u (base n + 533 * k + 531) 0
+  pub lead-filled : getD u (base n + channelLen * k + atLead) 0 ≤ getD u (base n + channelLen * k + atFilled) 0
   lead-filled =
       let c = chanOf (chanPart n u k) in
       let q = s .sound k h in
@@ -76,8 +77,8 @@ module _ (u : List ℕ) (f : List Float) (n : ℕ) (s : Fits u f n) (k : ℕ) (h
         q .recount 0 (omega arith),
         occ-le 0 (entries c),
         length-take (c .filled) (c .ring),
-        getD-part (base n + 533 * k) 533 u 531 0 (omega arith),
-        getD-part (base n + 533 * k) 533 u 532 0 (omega arith),
+        getD-part (base n + channelLen * k) channelLen u atFilled 0 (omega arith),
+        getD-part (base n + channelLen * k) channelLen u atLead 0 (omega arith),
       )
 
 -- ---- what the loops leave is the step, encoded
@@ -85,52 +86,52 @@ module _ (u : List ℕ) (f : List Float) (n : ℕ) (s : Fits u f n) (k : ℕ) (h
 -- channel k's rise floor from the flat stores
 abbrev pub riseAtOf : List ℕ → List Float → ℕ → ℕ → Float
 riseAtOf u f n k =
-    riseFloor (getD f (n + k) nan) (getD f (4 * n + k / 32) nan) (since (chanOf (chanPart n u k))) (getD u (3 + k / 32) 0)
-    (getD f (4 * n + blocks n + k / 32) nan)
+    riseFloor (getD f (n + k) nan) (getD f (4 * n + k / blockChannels) nan) (since (chanOf (chanPart n u k))) (getD u (3 + k / blockChannels) 0)
+    (getD f (4 * n + blocks n + k / blockChannels) nan)
 
 -- channel k's part after its push, from the flat store
 abbrev pub pushedOf : List ℕ → List Float → ℕ → ℕ → List ℕ
-pushedOf u db n k = chanU (pushIn 250 (eqb 0 (getD u (3 + k / 32) 0)) (chanOf (chanPart n u k)) (binOf (getD db k nan)))
+pushedOf u db n k = chanU (pushIn ringLen (eqb 0 (getD u (3 + k / blockChannels) 0)) (chanOf (chanPart n u k)) (binOf (getD db k nan)))
 
 module _ (u : List ℕ) (f : List Float) (n : ℕ) (s : Fits u f n) (db : List Float) where
-  pub pushed-long : (k : ℕ) → k < n → length (pushedOf u db n k) ≡ 533
+  pub pushed-long : (k : ℕ) → k < n → length (pushedOf u db n k) ≡ channelLen
   pushed-long k h =
-      let c = pushIn 250 (eqb 0 (getD u (3 + k / 32) 0)) (chanOf (chanPart n u k)) (binOf (getD db k nan)) in
-      let q = sound-push (eqb 0 (getD u (3 + k / 32) 0)) (chanOf (chanPart n u k)) (binOf (getD db k nan)) (s .sound k h) (bin-below (getD db k nan)) in
+      let c = pushIn ringLen (eqb 0 (getD u (3 + k / blockChannels) 0)) (chanOf (chanPart n u k)) (binOf (getD db k nan)) in
+      let q = sound-push (eqb 0 (getD u (3 + k / blockChannels) 0)) (chanOf (chanPart n u k)) (binOf (getD db k nan)) (s .sound k h) (bin-below (getD db k nan)) in
       length-chanU c (q .ring-length) (q .counts-length)
 
-  pushed-all : (k : ℕ) → k ≤ n → length (joined (tab k (pushedOf u db n))) ≡ 533 * k
-  pushed-all k h = length-joined 533 k (pushedOf u db n) (λ j l. pushed-long j (omega arith))
+  pushed-all : (k : ℕ) → k ≤ n → length (joined (tab k (pushedOf u db n))) ≡ channelLen * k
+  pushed-all k h = length-joined channelLen k (pushedOf u db n) (λ j l. pushed-long j (omega arith))
 
   -- one turn of the pushes: u₁ is what the turns before left
-  module _ (k : ℕ) (h : k < n) (u₁ : List ℕ) (t : u₁ ≡ splice (base n) (533 * k) u (joined (tab k (pushedOf u db n)))) where
-    same-part : part (base n + 533 * k) 533 u₁ ≡ chanPart n u k
+  module _ (k : ℕ) (h : k < n) (u₁ : List ℕ) (t : u₁ ≡ splice (base n) (channelLen * k) u (joined (tab k (pushedOf u db n)))) where
+    same-part : part (base n + channelLen * k) channelLen u₁ ≡ chanPart n u k
     same-part =
-        ap (part (base n + 533 * k) 533) t
-        ∙ part-past (base n) (533 * k) (base n + 533 * k) 533 u (joined (tab k (pushedOf u db n))) (pushed-all k (omega arith)) (omega arith)
-        (omega (arith, s .long, row 533 k n h))
+        ap (part (base n + channelLen * k) channelLen) t
+        ∙ part-past (base n) (channelLen * k) (base n + channelLen * k) channelLen u (joined (tab k (pushedOf u db n))) (pushed-all k (omega arith)) (omega arith)
+        (omega (arith, s .long, row channelLen k n h))
 
     pub turn-long : length u₁ ≡ length u
     turn-long =
-        ap length t ∙ length-splice (base n) (533 * k) u (joined (tab k (pushedOf u db n))) (omega (arith, s .long, row 533 k n h)) (pushed-all k (omega arith))
+        ap length t ∙ length-splice (base n) (channelLen * k) u (joined (tab k (pushedOf u db n))) (omega (arith, s .long, row channelLen k n h)) (pushed-all k (omega arith))
 
-    pub turn-asks : (base n + 533 * k + 533 ≤ length u₁) × Sound 250 280 (chanOf (part (base n + 533 * k) 533 u₁))
-    turn-asks = (omega (arith, turn-long, lent-long u f n s k h), subst (λ (p : List ℕ). Sound 250 280 (chanOf p)) (sym same-part) (s .sound k h))
+    pub turn-asks : (base n + channelLen * k + channelLen ≤ length u₁) × Sound ringLen bins (chanOf (part (base n + channelLen * k) channelLen u₁))
+    turn-asks = (omega (arith, turn-long, lent-long u f n s k h), subst (λ (p : List ℕ). Sound ringLen bins (chanOf p)) (sym same-part) (s .sound k h))
 
     pub turn-done : (u₂ : List ℕ)
-        → u₂ ≡ splice (base n + 533 * k) 533 u₁ (chanU (pushIn 250 (eqb 0 (getD u₁ (3 + k / 32) 0)) (chanOf (part (base n + 533 * k) 533 u₁)) (binOf (getD db k nan))))
-        → u₂ ≡ splice (base n) (533 * (k + 1)) u (joined (tab (k + 1) (pushedOf u db n)))
+        → u₂ ≡ splice (base n + channelLen * k) channelLen u₁ (chanU (pushIn ringLen (eqb 0 (getD u₁ (3 + k / blockChannels) 0)) (chanOf (part (base n + channelLen * k) channelLen u₁)) (binOf (getD db k nan))))
+        → u₂ ≡ splice (base n) (channelLen * (k + 1)) u (joined (tab (k + 1) (pushedOf u db n)))
     turn-done u₂ g =
         g
         ∙ (λ i.
-        splice (base n + 533 * k) 533 (t i)
-        (chanU (pushIn 250 (eqb 0 (quiet i)) (chanOf (same-part i)) (binOf (getD db k nan)))))
-        ∙ parts-turn (base n) 533 k u (pushedOf u db n) (λ j l. pushed-long j (omega arith)) (omega (arith, lent-long u f n s k h))
+        splice (base n + channelLen * k) channelLen (t i)
+        (chanU (pushIn ringLen (eqb 0 (quiet i)) (chanOf (same-part i)) (binOf (getD db k nan)))))
+        ∙ parts-turn (base n) channelLen k u (pushedOf u db n) (λ j l. pushed-long j (omega arith)) (omega (arith, lent-long u f n s k h))
       where
-        quiet : getD u₁ (3 + k / 32) 0 ≡ getD u (3 + k / 32) 0
+        quiet : getD u₁ (3 + k / blockChannels) 0 ≡ getD u (3 + k / blockChannels) 0
         quiet =
-            ap (λ (l : List ℕ). getD l (3 + k / 32) 0) t
-            ∙ getD-before (base n) (533 * k) u (joined (tab k (pushedOf u db n))) (3 + k / 32) 0 (omega arith) (omega (arith, s .long))
+            ap (λ (l : List ℕ). getD l (3 + k / blockChannels) 0) t
+            ∙ getD-before (base n) (channelLen * k) u (joined (tab k (pushedOf u db n))) (3 + k / blockChannels) 0 (omega arith) (omega (arith, s .long))
 
 -- the bank of two ready stores, where n is their number of channels
 module _ (u : List ℕ) (f : List Float) (r : Ready u f) (n : ℕ) (e : n ≡ getD u 0 0) where
@@ -210,17 +211,17 @@ module _ (u : List ℕ) (f : List Float) (r : Ready u f) (n : ℕ) (e : n ≡ ge
 
   rise-same : (k : ℕ) → k < n
       → riseAtOf u f n k
-      ≡ riseFloor (getD (bankOf u f .usable) k f0) (getD (bankOf u f .blockFloor) (k / 32) f0) (since (channel (bankOf u f) k)) (getD (bankOf u f .seeds) (k / 32) 0)
-      (getD (bankOf u f .seedSum) (k / 32) f0)
+      ≡ riseFloor (getD (bankOf u f .usable) k f0) (getD (bankOf u f .blockFloor) (k / blockChannels) f0) (since (channel (bankOf u f) k)) (getD (bankOf u f .seeds) (k / blockChannels) 0)
+      (getD (bankOf u f .seedSum) (k / blockChannels) f0)
   unfolding bankOf
   rise-same k h =
-      let i : k / 32 < blocks n = omega arith in
+      let i : k / blockChannels < blocks n = omega arith in
       (λ j.
       riseFloor (in-part n n (getD u 0 0) (getD u 0 0) k e e (omega (arith, long-f)) h j)
-      (in-part (4 * n) (blocks n) (4 * getD u 0 0) (blocks (getD u 0 0)) (k / 32) (ap (λ (m : ℕ). 4 * m) e) (ap blocks e) (omega (arith, long-f)) i j)
+      (in-part (4 * n) (blocks n) (4 * getD u 0 0) (blocks (getD u 0 0)) (k / blockChannels) (ap (λ (m : ℕ). 4 * m) e) (ap blocks e) (omega (arith, long-f)) i j)
       (since (chan-same k h j))
-      ((sym (getD-part 3 (blocks n) u (k / 32) 0 i) ∙ ap (λ (m : ℕ). getD (part 3 (blocks m) u) (k / 32) 0) e) j)
-      (in-part (4 * n + blocks n) (blocks n) (4 * getD u 0 0 + blocks (getD u 0 0)) (blocks (getD u 0 0)) (k / 32) (ap (λ (m : ℕ). 4 * m + blocks m) e) (ap blocks e) (omega (arith, long-f)) i j))
+      ((sym (getD-part 3 (blocks n) u (k / blockChannels) 0 i) ∙ ap (λ (m : ℕ). getD (part 3 (blocks m) u) (k / blockChannels) 0) e) j)
+      (in-part (4 * n + blocks n) (blocks n) (4 * getD u 0 0 + blocks (getD u 0 0)) (blocks (getD u 0 0)) (k / blockChannels) (ap (λ (m : ℕ). 4 * m + blocks m) e) (ap blocks e) (omega (arith, long-f)) i j))
     where
       long-f : length f ≡ bankFLen n
       long-f = r .long-f ∙ ap bankFLen (sym e)
@@ -247,26 +248,26 @@ module _ (u : List ℕ) (f : List Float) (r : Ready u f) (n : ℕ) (e : n ≡ ge
   whole-u : u ≡ bankU (bankOf u f)
   whole-u = sym (bank-forth-u u f (r .long))
 
-  chans-long : length (joined (map chanU (bankOf u f .chans))) ≡ 533 * bankOf u f .n
+  chans-long : length (joined (map chanU (bankOf u f .chans))) ≡ channelLen * bankOf u f .n
   chans-long = omega (arith, ap length whole-u, length-append (bankOf u f .seeds) (joined (map chanU (bankOf u f .chans))), r .good .seeds-long, r .long, n-of u f)
 
-  seed-same : (k : ℕ) → k < n → getD u (3 + k / 32) 0 ≡ getD (bankOf u f .seeds) (k / 32) 0
+  seed-same : (k : ℕ) → k < n → getD u (3 + k / blockChannels) 0 ≡ getD (bankOf u f .seeds) (k / blockChannels) 0
   unfolding bankOf
-  seed-same k h = sym (getD-part 3 (blocks n) u (k / 32) 0 (omega arith)) ∙ ap (λ (m : ℕ). getD (part 3 (blocks m) u) (k / 32) 0) e
+  seed-same k h = sym (getD-part 3 (blocks n) u (k / blockChannels) 0 (omega arith)) ∙ ap (λ (m : ℕ). getD (part 3 (blocks m) u) (k / blockChannels) 0) e
 
   pushed-same : (db : List Float) → length db ≡ n → (k : ℕ) → k < n
       → pushedOf u db n k ≡ chanU (channelAfter (bankOf u f .chans) (bankOf u f .seeds) db k)
   pushed-same db z k h =
       let any : getD db k nan ≡ getD db k f0 = getD-any db k nan f0 (omega arith) in
-      (λ j. chanU (pushIn 250 (eqb 0 (seed-same k h j)) (chan-same k h j) (binOf (any j))))
+      (λ j. chanU (pushIn ringLen (eqb 0 (seed-same k h j)) (chan-same k h j) (binOf (any j))))
 
-  pub push-done : (db : List Float) → length db ≡ n → (u′ : List ℕ) → u′ ≡ splice (base n) (533 * n) u (joined (tab n (pushedOf u db n)))
+  pub push-done : (db : List Float) → length db ≡ n → (u′ : List ℕ) → u′ ≡ splice (base n) (channelLen * n) u (joined (tab n (pushedOf u db n)))
       → u′ ≡ bankU (pushStep db (bankOf u f))
   unfolding pushStep chansAfter
   push-done db z u′ t =
       t
-      ∙ (λ i. splice (base (n-same i)) (533 * n-same i) (whole-u i) (joined (lists i)))
-      ∙ put-chans (bankOf u f .n) (bankOf u f .phase) (bankOf u f .started) (blocks (bankOf u f .n)) (533 * bankOf u f .n) (bankOf u f .seeds) (joined (map chanU (bankOf u f .chans)))
+      ∙ (λ i. splice (base (n-same i)) (channelLen * n-same i) (whole-u i) (joined (lists i)))
+      ∙ put-chans (bankOf u f .n) (bankOf u f .phase) (bankOf u f .started) (blocks (bankOf u f .n)) (channelLen * bankOf u f .n) (bankOf u f .seeds) (joined (map chanU (bankOf u f .chans)))
       (r .good .seeds-long) chans-long (joined (map chanU (chansAfter (bankOf u f) (bankOf u f .seeds) db)))
     where
       lists : tab n (pushedOf u db n) ≡ map chanU (chansAfter (bankOf u f) (bankOf u f .seeds) db)
@@ -306,7 +307,7 @@ module _ (u : List ℕ) (f : List Float) (r : Ready u f) (n : ℕ) (e : n ≡ ge
         record {
           u16s =
               (λ i. splice 3 (blocks (n-same i)) (whole-u i) (pushes i))
-              ∙ put-seeds (bankOf u f .n) (bankOf u f .phase) (bankOf u f .started) (blocks (bankOf u f .n)) (533 * bankOf u f .n) (bankOf u f .seeds) (joined (map chanU (bankOf u f .chans)))
+              ∙ put-seeds (bankOf u f .n) (bankOf u f .phase) (bankOf u f .started) (blocks (bankOf u f .n)) (channelLen * bankOf u f .n) (bankOf u f .seeds) (joined (map chanU (bankOf u f .chans)))
               (r .good .seeds-long) chans-long (seedsAfter (bankOf u f) db);
           floats = (λ i. splice (4 * n-same i + blocks (n-same i)) (blocks (n-same i)) (whole i) (sum i)) ∙ put-sums L (sumsAfter (bankOf u f) db);
         }

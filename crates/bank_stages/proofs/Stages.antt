@@ -12,6 +12,7 @@ use Rattle.laws.specs.Tests.{differ}
 use Rattle.laws.proofs.Tests.{passed, same-of, neither, or-l, or-r}
 use Rattle.laws.proofs.Tabs.{length-tab, getD-tab}
 use Rattle.model.specs.Numbers.{f0}
+use Rattle.model.specs.Layout.{bins, ringLen, blockChannels}
 use Rattle.model.specs.Ring.{ChannelFloor, binOf}
 use Rattle.model.specs.Bank.{FloorBank, Hop, hop, blocks, channel, channelAfter, freshChannel, smoothAfter, seedsAfter, sumsAfter, chansAfter, rawFloors, usableFloors, blockFloors, riseFloors, slowStep, fastStep, stepAt, bankStep}
 use Rattle.model.specs.Stores.{bankU, bankF, bankOf}
@@ -35,7 +36,7 @@ pub record Keeps (S : FloorBank → FloorBank) : Type 0 where
 -- the lists of a bank replaced by others of the same lengths
 good-with : (b : FloorBank) (seeds : List ℕ) (chans : List ChannelFloor) (raw usable smooth rise blockFloor sums : List Float) → Good b
     → length seeds ≡ blocks (b .n) → ((i : ℕ) → i < blocks (b .n) → getD seeds i 0 ≤ 25)
-    → length chans ≡ b .n → ((k : ℕ) → k < b .n → Sound 250 280 (getD chans k freshChannel))
+    → length chans ≡ b .n → ((k : ℕ) → k < b .n → Sound ringLen bins (getD chans k freshChannel))
     → length raw ≡ b .n → length usable ≡ b .n → length smooth ≡ b .n → length rise ≡ b .n → length blockFloor ≡ blocks (b .n) → length sums ≡ blocks (b .n)
     → Good (with b seeds chans raw usable smooth rise blockFloor sums)
 good-with b seeds chans raw usable smooth rise blockFloor sums g s small c sound r u m i f t =
@@ -85,8 +86,8 @@ keeps-push db =
           good-with b (b .seeds) (chansAfter b (b .seeds) db) (b .raw) (b .usable) (b .smooth) (b .rise) (b .blockFloor) (b .seedSum) g (g .seeds-long)
           (g .seeds-small) (length-tab (b .n) _)
           (λ k h.
-          subst (Sound 250 280) (sym (getD-tab (b .n) (channelAfter (b .chans) (b .seeds) db) k freshChannel h))
-          (sound-push (eqb 0 (getD (b .seeds) (k / 32) 0)) (channel b k) (binOf (getD db k f0)) (g .sound k h) (bin-below (getD db k f0))))
+          subst (Sound ringLen bins) (sym (getD-tab (b .n) (channelAfter (b .chans) (b .seeds) db) k freshChannel h))
+          (sound-push (eqb 0 (getD (b .seeds) (k / blockChannels) 0)) (channel b k) (binOf (getD db k f0)) (g .sound k h) (bin-below (getD db k f0))))
           (g .raw-long) (g .usable-long) (g .smooth-long) (g .rise-long) (g .blockFloor-long) (g .seedSum-long);
       size = λ b. refl;
     }

@@ -6,6 +6,7 @@ use mathlib.Core.List.{List, []}
 use Prim.Native.Nat.{ℕ, _+_, _%_, _<_, _≤_}
 use lib.ListN.{getD, length, set}
 use lib.Ieee.{Float}
+use Rattle.model.specs.Layout.{decimationHops}
 use Rattle.model.specs.Ring.{ChannelFloor}
 use Rattle.model.specs.Bank.{FloorBank, hop, smoothAfter, seedsAfter, sumsAfter, chansAfter, rawFloors, usableFloors, blockFloors, riseFloors}
 use Rattle.model.specs.Stores.{bankU, bankF}
@@ -59,7 +60,7 @@ unfoldable pub phaseStep : FloorBank → FloorBank
 phaseStep b =
     record {
       n = b .n;
-      phase = (b .phase + 1) % 15;
+      phase = (b .phase + 1) % decimationHops;
       started = 1;
       seeds = b .seeds;
       chans = b .chans;
@@ -78,8 +79,8 @@ pub record Holds (b : FloorBank) (u : List ℕ) (f : List Float) : Type 0 where
 
 -- the header's phase and started, as the code writes them
 abbrev pub advanced : List ℕ → List ℕ
-advanced u = set (set u 1 ((getD u 1 0 + 1) % 15)) 2 1
+advanced u = set (set u 1 ((getD u 1 0 + 1) % decimationHops)) 2 1
 
 pub record Headed (u : List ℕ) : Type 0 where
   pub long : 3 ≤ length u
-  pub phase : getD u 1 0 < 15
+  pub phase : getD u 1 0 < decimationHops

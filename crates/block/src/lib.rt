@@ -6,10 +6,9 @@ ghost use mathlib.Core.Bool.{_&&_};
 ghost use lib.Dec.{ltb};
 ghost use Rattle.model.specs.Numbers.{fmin, fmax};
 ghost use Rattle.model.specs.Bank.{seedOf, notBelow, effectiveFloor, riseFloor};
+use model::layout::RING_LEN_U16;
 
 const SEED_PUSHES: u16 = 25;
-
-const RING_LEN: u16 = 250;
 
 const BLOCK_ALLOWANCE_DB: f64 = 3.0;
 
@@ -60,5 +59,5 @@ pub fn rise_floor(usable: f64, block_floor: f64, since: u16, pushes: u16, sum: f
 {
     let effective = effective_floor(usable, block_floor, since, pushes, sum);
     let risen = greatest(effective, block_floor);
-    not_below_seed(risen, since < RING_LEN, pushes, sum)
+    not_below_seed(risen, since < RING_LEN_U16, pushes, sum)
 }

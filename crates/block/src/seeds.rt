@@ -4,6 +4,7 @@ ghost use Prim.Native.Nat.{_+_, _≤_};
 ghost use Rattle.laws.specs.Lists.{one};
 ghost use Rattle.model.specs.Bank.{takesSeed, sumAfter};
 ghost use Rattle.block.specs.Seeds.{Seedable, Seeded};
+use model::layout::HIST_MIN_DB;
 
 pub fn takes_seed(pushes: u16, med: f64) -> bool
     ensures { λ r. ⌜ r ≡ takesSeed pushes med ⌝ }
@@ -11,7 +12,7 @@ pub fn takes_seed(pushes: u16, med: f64) -> bool
     if pushes >= 25 {
         return false;
     }
-    med >= -140.0
+    med >= HIST_MIN_DB
 }
 
 fn pushes_after(pushes: u16, med: f64) -> u16

@@ -13,6 +13,7 @@ use Rattle.laws.proofs.Defaults.{getD-any}
 use Rattle.laws.proofs.Lists.{getD-part}
 use Rattle.laws.proofs.Tests.{neither, passed}
 use Rattle.model.specs.Numbers.{f0, fmin}
+use Rattle.model.specs.Layout.{bins, ringLen, blockChannels}
 use Rattle.model.specs.Ring.{since}
 use Rattle.model.specs.Bank.{blocks, effectiveFloor}
 use Rattle.model.specs.Stores.{bankOf, chanOf, chanPart}
@@ -31,7 +32,7 @@ from-ready u f k r h =
       high = r .good .high;
       long = r .long;
       long-f = r .long-f;
-      sound = subst (Sound 250 280) (channel-at u f k h) (r .good .sound k h);
+      sound = subst (Sound ringLen bins) (channel-at u f k h) (r .good .sound k h);
     }
 
 -- a reading that is not refused
@@ -58,29 +59,29 @@ module _ (u : List ℕ) (f : List Float) (k : ℕ) (r : Readable u f k) where
   unfolding bankOf
   rise-is = float-at (3 * N) N k f (omega arith) (r .below)
 
-  pub effective-is : effectiveFloor (getD f (N + k) nan) (getD f (4 * N + k / 32) nan) (since (chanOf (chanPart N u k))) (getD u (3 + k / 32) 0)
-      (getD f (4 * N + blocks N + k / 32) nan)
+  pub effective-is : effectiveFloor (getD f (N + k) nan) (getD f (4 * N + k / blockChannels) nan) (since (chanOf (chanPart N u k))) (getD u (3 + k / blockChannels) 0)
+      (getD f (4 * N + blocks N + k / blockChannels) nan)
       ≡ effectiveAt (bankOf u f) k
   unfolding effectiveAt bankOf
   effective-is =
       let usable = float-at N N k f (omega arith) (r .below) in
-      let floor = float-at (4 * N) (blocks N) (k / 32) f (omega arith) (omega arith) in
-      let pushes = sym (getD-part 3 (blocks N) u (k / 32) 0 (omega arith)) in
-      let sum = float-at (4 * N + blocks N) (blocks N) (k / 32) f (omega arith) (omega arith) in
+      let floor = float-at (4 * N) (blocks N) (k / blockChannels) f (omega arith) (omega arith) in
+      let pushes = sym (getD-part 3 (blocks N) u (k / blockChannels) 0 (omega arith)) in
+      let sum = float-at (4 * N + blocks N) (blocks N) (k / blockChannels) f (omega arith) (omega arith) in
       λ j. effectiveFloor (usable j) (floor j) (since (sym (channel-at u f k (r .below)) j)) (pushes j) (sum j)
 
   -- the same as the code has it: n as it was read, and e the entries since the leading silence
   pub effective-read : (n e : ℕ) → n ≡ N → e ≡ since (chanOf (chanPart n u k))
-      → effectiveFloor (getD f (n + k) nan) (getD f (4 * n + k / 32) nan) e (getD u (3 + k / 32) 0) (getD f (4 * n + blocks n + k / 32) nan)
+      → effectiveFloor (getD f (n + k) nan) (getD f (4 * n + k / blockChannels) nan) e (getD u (3 + k / blockChannels) 0) (getD f (4 * n + blocks n + k / blockChannels) nan)
       ≡ effectiveAt (bankOf u f) k
   effective-read n e d h =
       ap₂
       (λ (n e : ℕ).
-      effectiveFloor (getD f (n + k) nan) (getD f (4 * n + k / 32) nan) e (getD u (3 + k / 32) 0) (getD f (4 * n + blocks n + k / 32) nan))
+      effectiveFloor (getD f (n + k) nan) (getD f (4 * n + k / blockChannels) nan) e (getD u (3 + k / blockChannels) 0) (getD f (4 * n + blocks n + k / blockChannels) nan))
       d (h ∙ ap (λ (n : ℕ). since (chanOf (chanPart n u k))) d)
       ∙ effective-is
 
-pub block-below : (n k : ℕ) → k < n → k / 32 < blocks n
+pub block-below : (n k : ℕ) → k < n → k / blockChannels < blocks n
 block-below n k h = omega arith
 
 -- a smoothed power, of n channels

@@ -4,6 +4,7 @@ use mathlib.Core.List.{List}
 use Prim.Native.Nat.{ℕ, _≤_, _<_}
 use lib.ListN.{length, getD}
 use lib.Ieee.{Float}
+use Rattle.model.specs.Layout.{bins, ringLen}
 use Rattle.model.specs.Stores.{bankLen, bankFLen, chanOf, chanPart}
 use Rattle.model.specs.Sound.{Sound}
 
@@ -12,4 +13,4 @@ pub record Readable (u : List ℕ) (f : List Float) (k : ℕ) : Type 0 where
   pub high : getD u 0 0 ≤ 512
   pub long : length u ≡ bankLen (getD u 0 0)
   pub long-f : length f ≡ bankFLen (getD u 0 0)
-  pub sound : Sound 250 280 (chanOf (chanPart (getD u 0 0) u k))
+  pub sound : Sound ringLen bins (chanOf (chanPart (getD u 0 0) u k))

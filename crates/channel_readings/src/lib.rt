@@ -2,19 +2,24 @@
 ghost use mathlib.Core.Path.{_≡_};
 ghost use Prim.Native.Nat.{_+_, _*_, _≤_, _<_};
 ghost use lib.ListN.{length, getD};
+ghost use Rattle.model.specs.Layout.{ringLen, channelLen};
 ghost use Rattle.model.specs.Stores.{base, bankLen, bankOf};
 ghost use Rattle.model.specs.Readings.{effectiveAt, riseAt, floorsAt, VeryPart};
 ghost use Rattle.channel_readings.specs.Readable.{Readable};
+use model::layout::BLOCK_CHANNELS;
+use model::layout::BLOCK_REST;
+use model::layout::CHANNEL_LEN;
+use model::layout::RING_LEN;
 
 pub fn effective_at(bank: &[u16], bank_f: &[f64], k: usize) -> f64
     requires { ⌜ Readable (now bank) (now «bank_f») k ⌝ }
     ensures { λ r. ⌜ r ≡ effectiveAt (bankOf (now (bank .entry)) (now («bank_f» .entry))) k ⌝ }
 {
     let n = laws::wide(bank[0]);
-    let blocks = (n + 31) / 32;
-    let i = k / 32;
-    let a = 3 + blocks + 533 * k;
-    let e = a + 533;
+    let blocks = (n + BLOCK_REST) / BLOCK_CHANNELS;
+    let i = k / BLOCK_CHANNELS;
+    let a = 3 + blocks + CHANNEL_LEN * k;
+    let e = a + CHANNEL_LEN;
     let since = ring::since(&bank[a..e]);
     block::effective_floor(
         bank_f[n + k],
@@ -49,17 +54,17 @@ pub fn floors_at(bank: &[u16], bank_f: &[f64], k: usize) -> model::Floors
 // Where the ring of channel k starts.
 pub fn ring_start(bank: &[u16], k: usize) -> usize
     requires { ⌜ (k < getD (now bank) 0 0) × (getD (now bank) 0 0 ≤ 512) × (length (now bank) ≡ bankLen (getD (now bank) 0 0)) ⌝ }
-    ensures { λ r. ⌜ (r ≡ base (getD (now (bank .entry)) 0 0) + 533 * k) × (r + 250 ≤ length (now (bank .entry))) ⌝ }
+    ensures { λ r. ⌜ (r ≡ base (getD (now (bank .entry)) 0 0) + channelLen * k) × (r + ringLen ≤ length (now (bank .entry))) ⌝ }
 {
     let n = laws::wide(bank[0]);
-    3 + (n + 31) / 32 + 533 * k
+    3 + (n + BLOCK_REST) / BLOCK_CHANNELS + CHANNEL_LEN * k
 }
 
 pub fn ring_at<'a>(bank: &'a [u16], a: usize) -> &'a [u16]
-    requires { ⌜ a + 250 ≤ length (now bank) ⌝ }
-    ensures { λ r. ⌜ VeryPart (bank .entry) r a 250 ⌝ }
+    requires { ⌜ a + ringLen ≤ length (now bank) ⌝ }
+    ensures { λ r. ⌜ VeryPart (bank .entry) r a ringLen ⌝ }
 {
-    let e = a + 250;
+    let e = a + RING_LEN;
     &bank[a..e]
 }
 

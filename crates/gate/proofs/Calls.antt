@@ -10,21 +10,17 @@ use Rattle.laws.specs.Tests.{differ}
 use Rattle.laws.proofs.Tests.{neither, passed, same-of, or-l, or-r}
 use Rattle.model.specs.Bank.{FloorBank}
 use Rattle.model.specs.Stores.{bankOf}
-use Rattle.model.specs.Gate.{Gate, gateStep}
-use Rattle.model.specs.GateStores.{gateOf}
+use Rattle.model.specs.Gate.{Gate, gateStep, refresh, updateStep, holdStep}
+use Rattle.model.specs.GateStores.{gateU, gateF, gateOf}
 use Rattle.model.specs.GateCalls.{GateHop, pairRefusal, gateUpdateRefusal, holdRefusal, gateLeaves, marksOf, gateUpdate, gateHold}
 use Rattle.model.specs.GoodGate.{GoodGate}
 use Rattle.model.proofs.GoodGates.{n-of}
-use Rattle.model.proofs.FreshGates.{good-gate-step}
-use Rattle.gate_step.proofs.Looks.{held-ready, held-is}
+use Rattle.model.proofs.FreshGates.{good-gate-step, good-update, good-hold}
+use Rattle.model.proofs.Pairs.{bare-hold}
+use Rattle.gate_step.proofs.Looks.{holds-u, held-ready, held-is}
 use Rattle.gate_cursors.specs.Paired.{Paired, Marked}
 use Rattle.gate_cursors.proofs.Pairs.{paired}
 use Rattle.gate_step.specs.Steps.{Holds}
-
--- a refusal leaves the marks
-unmarked : (x : ℕ) (g : Gate) (b : FloorBank) (rise drop : List ℕ) → (x ≡ 0 → ⊥) → (rise, drop) ≡ marksOf x g b rise drop
-unmarked zero g b rise drop z = absurd (z refl)
-unmarked (suc x) g b rise drop z = refl
 
 -- ---- what a call that is not refused has shown
 
@@ -56,18 +52,27 @@ module _ (bu : List ℕ) (bf : List Float) (gu : List ℕ) (gf : List Float) whe
   -- ---- a hold
 
   module _ (rise drop : List ℕ) where
-    pub hold-refused : (x : ℕ) → x ≡ holdRefusal bu bf gu gf (length rise) (length drop) → (x ≡ 0 → ⊥) → (x, rise, drop) ≡ gateHold bu bf gu gf rise drop
-    unfolding gateHold
-    hold-refused x e z =
-        ap (λ (m : List ℕ × List ℕ). (x, m .0, m .1)) (unmarked x (gateOf gu gf) (bankOf bu bf) rise drop z)
-        ∙ ap (λ (y : ℕ). (y, marksOf y (gateOf gu gf) (bankOf bu bf) rise drop .0, marksOf y (gateOf gu gf) (bankOf bu bf) rise drop .1)) e
+    abbrev kept : Gate
+    kept = holdStep (gateOf gu gf) (bankOf bu bf)
 
-    pub held-marks : (rise′ drop′ : List ℕ) → holdRefusal bu bf gu gf (length rise) (length drop) ≡ 0 → Marked (gateOf gu gf) (bankOf bu bf) rise′ drop′
-        → (0, rise′, drop′) ≡ gateHold bu bf gu gf rise drop
+    -- what the call answers and leaves, by its refusal
+    abbrev held : ℕ → ℕ × List Float × List ℕ × List ℕ
+    held y =
+        let marks = marksOf y kept (bankOf bu bf) rise drop in
+        (y, gateLeaves y kept gu gf .2, marks .0, marks .1)
+
+    untouched : (y : ℕ) → (y ≡ 0 → ⊥) → (y, gf, rise, drop) ≡ held y
+    untouched zero w = absurd (w refl)
+    untouched (suc y) w = refl
+
+    pub hold-refused : (x : ℕ) → x ≡ holdRefusal bu bf gu gf (length rise) (length drop) → (x ≡ 0 → ⊥) → (x, gf, rise, drop) ≡ gateHold bu bf gu gf rise drop
     unfolding gateHold
-    held-marks rise′ drop′ e m =
-        (λ i. (0, m .rises i, m .drops i))
-        ∙ ap (λ (y : ℕ). (y, marksOf y (gateOf gu gf) (bankOf bu bf) rise drop .0, marksOf y (gateOf gu gf) (bankOf bu bf) rise drop .1)) (sym e)
+    hold-refused x e z = untouched x z ∙ ap held e
+
+    pub held-marks : (f′ : List Float) (rise′ drop′ : List ℕ) → holdRefusal bu bf gu gf (length rise) (length drop) ≡ 0 → f′ ≡ gateF kept
+        → Marked kept (bankOf bu bf) rise′ drop′ → (0, f′, rise′, drop′) ≡ gateHold bu bf gu gf rise drop
+    unfolding gateHold
+    held-marks f′ rise′ drop′ e q m = (λ i. (0, q i, m .rises i, m .drops i)) ∙ ap held (sym e)
 
   -- ---- an update
 
@@ -76,7 +81,7 @@ module _ (bu : List ℕ) (bf : List Float) (gu : List ℕ) (gf : List Float) whe
     refusal = gateUpdateRefusal bu bf gu gf (length (h .db)) (length (h .power)) (length rise) (length drop)
 
     abbrev after : Gate
-    after = gateStep (gateOf gu gf) (h .db) (h .power)
+    after = updateStep (gateOf gu gf) (bankOf bu bf) (h .db) (h .power)
 
     -- what the call answers and leaves, by its refusal
     abbrev outcome : ℕ → ℕ × List ℕ × List Float × List ℕ × List ℕ
@@ -98,23 +103,60 @@ module _ (bu : List ℕ) (bf : List Float) (gu : List ℕ) (gf : List Float) whe
     unfolding gateUpdate
     updated u′ f′ rise′ drop′ e q m = (λ i. (0, q .u16s i, q .floats i, m .rises i, m .drops i)) ∙ ap outcome (sym e)
 
-  -- the stores that a step leaves
-  module _ (db power : List Float) (p : Paired bu bf gu gf) (u′ : List ℕ) (f′ : List Float) (q : Holds (gateStep (gateOf gu gf) db power) u′ f′) where
-    after-good : GoodGate (gateStep (gateOf gu gf) db power)
-    after-good = good-gate-step (gateOf gu gf) db power (p .gate .good)
+  -- ---- the stores that a step leaves: they hold a sound gate of as many channels
 
-    pub after-n : getD u′ 0 0 ≡ getD gu 0 0
+  module _ (p : Paired bu bf gu gf) (g : Gate) (good : GoodGate g) (same-n : g .n ≡ getD gu 0 0) (u′ : List ℕ) (f′ : List Float) (q : Holds g u′ f′) where
+    pub left-n : getD u′ 0 0 ≡ getD gu 0 0
+    left-n = ap (λ (l : List ℕ). getD l 0 0) (q .u16s) ∙ same-n
+
+    pub left-paired : Paired bu bf u′ f′
+    left-paired = record { bank = p .bank; gate = held-ready u′ f′ g good (q .u16s) (q .floats); same = p .same ∙ sym left-n }
+
+    pub left-is : gateOf u′ f′ ≡ g
+    left-is = held-is u′ f′ g good (q .u16s) (q .floats)
+
+    pub left-marked : (b : FloorBank) (rise drop : List ℕ) → Marked (gateOf u′ f′) b rise drop → Marked g b rise drop
+    left-marked b rise drop m = subst (λ (x : Gate). Marked x b rise drop) left-is m
+
+  -- the hop of an update
+  module _ (p : Paired bu bf gu gf) (db power : List Float) where
+    pub hop-good : GoodGate (gateStep (gateOf gu gf) db power)
+    hop-good = good-gate-step (gateOf gu gf) db power (p .gate .good)
+
+    pub hop-n : gateStep (gateOf gu gf) db power .n ≡ getD gu 0 0
     unfolding gateStep
-    after-n = ap (λ (l : List ℕ). getD l 0 0) (q .u16s) ∙ n-of gu gf
+    hop-n = n-of gu gf
 
-    pub after-paired : Paired bu bf u′ f′
-    after-paired =
+    -- and the pairs after it
+    pub update-good : GoodGate (updateStep (gateOf gu gf) (bankOf bu bf) db power)
+    update-good = good-update (gateOf gu gf) (bankOf bu bf) db power (p .gate .good)
+
+    pub update-n : updateStep (gateOf gu gf) (bankOf bu bf) db power .n ≡ getD gu 0 0
+    unfolding updateStep refresh gateStep
+    update-n = n-of gu gf
+
+    update-u : gateU (gateStep (gateOf gu gf) db power) ≡ gateU (updateStep (gateOf gu gf) (bankOf bu bf) db power)
+    unfolding updateStep refresh
+    update-u = refl
+
+    pub update-holds : (u′ : List ℕ) (f′ f″ : List Float) → Holds (gateStep (gateOf gu gf) db power) u′ f′ → f″ ≡ gateF (refresh (gateOf u′ f′) (bankOf bu bf))
+        → Holds (updateStep (gateOf gu gf) (bankOf bu bf) db power) u′ f″
+    update-holds u′ f′ f″ q e =
         record {
-          bank = p .bank;
-          gate = held-ready u′ f′ (gateStep (gateOf gu gf) db power) after-good (q .u16s) (q .floats);
-          same = p .same ∙ sym after-n;
+          u16s = q .u16s ∙ update-u;
+          floats =
+              e
+              ∙ ap (λ (g : Gate). gateF (refresh g (bankOf bu bf))) (left-is p (gateStep (gateOf gu gf) db power) hop-good hop-n u′ f′ q)
+              ∙ (unfold updateStep in refl);
         }
 
-    pub after-marked : (b : FloorBank) (rise drop : List ℕ) → Marked (gateOf u′ f′) b rise drop → Marked (gateStep (gateOf gu gf) db power) b rise drop
-    after-marked b rise drop m =
-        subst (λ (g : Gate). Marked g b rise drop) (held-is u′ f′ (gateStep (gateOf gu gf) db power) after-good (q .u16s) (q .floats)) m
+  -- the pairs of a hold
+  module _ (p : Paired bu bf gu gf) where
+    pub hold-good : GoodGate (holdStep (gateOf gu gf) (bankOf bu bf))
+    hold-good = good-hold (gateOf gu gf) (bankOf bu bf) (p .gate .good)
+
+    pub hold-n : holdStep (gateOf gu gf) (bankOf bu bf) .n ≡ getD gu 0 0
+    hold-n = ap (λ (g : Gate). g .n) (bare-hold (gateOf gu gf) (bankOf bu bf)) ∙ n-of gu gf
+
+    pub hold-holds : (f′ : List Float) → f′ ≡ gateF (holdStep (gateOf gu gf) (bankOf bu bf)) → Holds (holdStep (gateOf gu gf) (bankOf bu bf)) gu f′
+    hold-holds f′ e = record { u16s = holds-u gu gf (p .gate) ∙ sym (ap gateU (bare-hold (gateOf gu gf) (bankOf bu bf))); floats = e }

@@ -3,7 +3,7 @@
 ghost use mathlib.Core.Path.{_≡_};
 ghost use Rattle.model.specs.GateCalls.{gateUpdate, gateHold};
 
-// One hop's dB and linear power of each channel: the gate steps, and is then judged.
+// One hop's dB and linear power of each channel: the gate steps, its pairs are brought up to date (R-3), and it is judged.
 pub fn gate_update(
     bank: &[u16],
     bank_f: &[f64],
@@ -30,25 +30,27 @@ pub fn gate_update(
         return refusal;
     }
     gate_step::step(gate, gate_f, power_db, power);
+    gate_pairs::refresh(bank, bank_f, gate, gate_f);
     gate_marks::judge(bank, bank_f, gate, gate_f, rise, drop);
     0
 }
 
-// The marks again, with no hop.
+// The marks again, with no hop: the floors may have moved since, so the pairs are brought up to date here too (R-3).
 pub fn gate_hold(
     bank: &[u16],
     bank_f: &[f64],
     gate: &[u16],
-    gate_f: &[f64],
+    gate_f: &mut [f64],
     rise: &mut [u8],
     drop: &mut [u8],
 ) -> u16
-    ensures { λ r. ⌜ (r, now (rise .exit), now (drop .exit)) ≡ gateHold (now (bank .entry)) (now («bank_f» .entry)) (now (gate .entry)) (now («gate_f» .entry)) (now (rise .entry)) (now (drop .entry)) ⌝ }
+    ensures { λ r. ⌜ (r, now («gate_f» .exit), now (rise .exit), now (drop .exit)) ≡ gateHold (now (bank .entry)) (now («bank_f» .entry)) (now (gate .entry)) (now («gate_f» .entry)) (now (rise .entry)) (now (drop .entry)) ⌝ }
 {
     let refusal = gate_store::hold_refusal(bank, bank_f, gate, gate_f, rise.len(), drop.len());
     if refusal != 0 {
         return refusal;
     }
+    gate_pairs::refresh_started(bank, bank_f, gate, gate_f);
     gate_marks::judge(bank, bank_f, gate, gate_f, rise, drop);
     0
 }

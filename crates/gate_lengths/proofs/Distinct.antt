@@ -15,8 +15,8 @@ use Rattle.laws.specs.Tests.{within}
 use Rattle.laws.proofs.Tests.{clash, by-test, and-l, and-r, and-true, and-false-l, and-false-r, within-of}
 use Rattle.model.specs.Gate.{among, distinct}
 use Rattle.model.specs.GateStores.{lookSize, lookStart}
-use Rattle.model.specs.GateCalls.{allWithin, goodLengths, floatsFor}
-use Rattle.gate_lengths.specs.Makes.{floatsMore}
+use Rattle.model.specs.GateCalls.{allWithin, goodLengths}
+use Rattle.gate_lengths.specs.Makes.{floatsBefore, floatsMore}
 
 -- one entry more
 pub take-more : (l : List ℕ) (i : ℕ) → i < length l → take (i + 1) l ≡ take i l ++ (getD l i 0 ∷ [])
@@ -140,28 +140,28 @@ start-front n f (suc j) =
     ap (λ (k : ℕ). k + lookSize n (f (suc j))) (start-front n f j)
     ∙ swap (lookStart n (λ i. f (suc i)) j) (lookSize n (f 0)) (lookSize n (f (suc j)))
 
-pub floats-cons : (n m : ℕ) (ms : List ℕ) → floatsFor n (m ∷ ms) ≡ floatsFor n ms + lookSize n m
+pub floats-cons : (n m : ℕ) (ms : List ℕ) → floatsBefore n (m ∷ ms) ≡ floatsBefore n ms + lookSize n m
 floats-cons n m ms = start-front n (λ j. getD (m ∷ ms) j 0) (length ms)
 
-floats-snoc : (n : ℕ) (ms : List ℕ) (x : ℕ) → floatsFor n (ms ++ (x ∷ [])) ≡ floatsFor n ms + lookSize n x
+floats-snoc : (n : ℕ) (ms : List ℕ) (x : ℕ) → floatsBefore n (ms ++ (x ∷ [])) ≡ floatsBefore n ms + lookSize n x
 floats-snoc n [] x = refl
 floats-snoc n (m ∷ ms) x =
     floats-cons n m (ms ++ (x ∷ []))
     ∙ ap (λ (k : ℕ). k + lookSize n m) (floats-snoc n ms x)
-    ∙ swap (floatsFor n ms) (lookSize n x) (lookSize n m)
+    ∙ swap (floatsBefore n ms) (lookSize n x) (lookSize n m)
     ∙ ap (λ (k : ℕ). k + lookSize n x) (sym (floats-cons n m ms))
 
-pub floats-turn : (n : ℕ) (l : List ℕ) (i x y : ℕ) → i < length l → x ≡ floatsFor n (firstOf l i) → y ≡ floatsMore n l i
-    → x + y ≡ floatsFor n (firstOf l (i + 1))
+pub floats-turn : (n : ℕ) (l : List ℕ) (i x y : ℕ) → i < length l → x ≡ floatsBefore n (firstOf l i) → y ≡ floatsMore n l i
+    → x + y ≡ floatsBefore n (firstOf l (i + 1))
 unfolding floatsMore
 floats-turn n l i x y h d e =
     by-test (among (getD l i 0) (take i l))
     (λ t.
     ap₂ _+_ d (e ∙ rw t)
-    ∙ add-zero (floatsFor n (firstOf l i))
-    ∙ sym (ap (floatsFor n) (first-more l i h ∙ ap (λ (b : Bool). firstOf l i ++ unseen b (getD l i 0)) t ∙ append-nil (firstOf l i))))
+    ∙ add-zero (floatsBefore n (firstOf l i))
+    ∙ sym (ap (floatsBefore n) (first-more l i h ∙ ap (λ (b : Bool). firstOf l i ++ unseen b (getD l i 0)) t ∙ append-nil (firstOf l i))))
     (λ t.
     ap₂ _+_ d (e ∙ rw t)
     ∙ sym
-    (ap (floatsFor n) (first-more l i h ∙ ap (λ (b : Bool). firstOf l i ++ unseen b (getD l i 0)) t)
+    (ap (floatsBefore n) (first-more l i h ∙ ap (λ (b : Bool). firstOf l i ++ unseen b (getD l i 0)) t)
     ∙ floats-snoc n (firstOf l i) (getD l i 0)))

@@ -75,5 +75,5 @@ pub fn floats_for(n: usize, lengths: &[u16]) -> usize
         floats += floats_more(n, lengths, i);
         i += 1;
     }
-    floats
+    floats + 2 * n
 }

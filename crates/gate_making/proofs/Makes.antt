@@ -6,11 +6,12 @@ use Prim.Native.Nat.{ℕ, zero, suc, _+_, _-_, _*_, _<_, _≤_}
 use native.Mathlib.Nat.{add-assoc, add-comm}
 use native.Mathlib.Omega.{arith}
 use lib.ListN.{length, getD, take, set, replicate, length-append, length-map, length-replicate, replicate-append-replicate}
-use lib.Ieee.{Float}
+use lib.Ieee.{Float, nan, binary64, div, ofBits}
 use lib.IntN.{ℤ}
 use lib.Seq.{set-at}
 use borrow.Author.Tests.{eq-eqb, ne-eqb, not-false}
-use Rattle.laws.specs.Lists.{joined}
+use Rattle.laws.specs.Lists.{splice, joined}
+use Rattle.laws.proofs.Lists.{splice-mid}
 use Rattle.laws.specs.Tests.{within, differ, first}
 use Rattle.laws.proofs.Tests.{by-test, passed, same-of, or-l, or-r, within-of}
 use Rattle.model.specs.Numbers.{f0}
@@ -19,7 +20,7 @@ use Rattle.model.specs.Gate.{Gate, among, distinct, freshGate}
 use Rattle.model.specs.GateStores.{triple, gateU, lookF, gateF, lookSize}
 use Rattle.model.specs.GateCalls.{goodLengths, stored, goodLevel, absent, floatsFor, gateMakeRefusal, settingsOf, gateFLenFor, gateLeaves, gateNew}
 use Rattle.bank_making.proofs.Makes.{joined-replicate}
-use Rattle.gate_lengths.specs.Makes.{lengthPut, freshTriple, freshU, withLengths}
+use Rattle.gate_lengths.specs.Makes.{floatsBefore, lengthPut, freshTriple, freshU, withLengths, freshF}
 use Rattle.gate_lengths.proofs.Distinct.{firstOf, first-more, first-le, floats-cons}
 
 -- ---- the u16 store
@@ -126,20 +127,42 @@ turned {A} a b v r =
     (replicate-append-replicate a b v ∙ ap (λ (k : ℕ). replicate k v) (add-comm a b) ∙ sym (replicate-append-replicate b a v))
     ∙ append-assoc (replicate b v) (replicate a v) r
 
-fresh-looks : (n : ℕ) (ms : List ℕ) → replicate n f0 ++ joined (map lookF (map (freshLook n) ms)) ≡ replicate (floatsFor n ms) f0
+fresh-looks : (n : ℕ) (ms : List ℕ) → replicate n f0 ++ joined (map lookF (map (freshLook n) ms)) ≡ replicate (floatsBefore n ms) f0
 fresh-looks n [] = append-nil (replicate n f0)
 fresh-looks n (m ∷ ms) =
     let J = joined (map lookF (map (freshLook n) ms)) in
     ap (λ (r : List Float). replicate n f0 ++ (r ++ J)) (fresh-look n m)
     ∙ turned n (lookSize n m) f0 J
     ∙ ap (λ (r : List Float). replicate (lookSize n m) f0 ++ r) (fresh-looks n ms)
-    ∙ replicate-append-replicate (lookSize n m) (floatsFor n ms) f0
-    ∙ ap (λ (k : ℕ). replicate k f0) (add-comm (lookSize n m) (floatsFor n ms) ∙ sym (floats-cons n m ms))
+    ∙ replicate-append-replicate (lookSize n m) (floatsBefore n ms) f0
+    ∙ ap (λ (k : ℕ). replicate k f0) (add-comm (lookSize n m) (floatsBefore n ms) ∙ sym (floats-cons n m ms))
 
 pub fresh-f : (n : ℕ) (on off early : ℤ) (l : List ℕ) (k : ℕ) → k ≡ floatsFor n (distinct [] l)
-    → replicate k f0 ≡ gateF (freshGate (settingsOf n on off early l))
+    → freshF (k - 2 * n) n ≡ gateF (freshGate (settingsOf n on off early l))
 unfolding freshGate settingsOf
-fresh-f n on off early l k e = ap (λ (j : ℕ). replicate j f0) e ∙ sym (fresh-looks n (distinct [] l))
+fresh-f n on off early l k e =
+    let P = replicate n nan ++ replicate n f0 in
+    ap (λ (j : ℕ). replicate j f0 ++ P) (let z : k - 2 * n ≡ floatsBefore n (distinct [] l) = omega arith in z)
+    ∙ ap (λ (r : List Float). r ++ P) (sym (fresh-looks n (distinct [] l)))
+    ∙ append-assoc (replicate n f0) (joined (map lookF (map (freshLook n) (distinct [] l)))) P
+
+-- zeros, and NaN over the first n of the last 2n
+pub pairs-put : (L n : ℕ) (x : Float) (l : List Float) → 2 * n ≤ L → x ≡ nan → l ≡ replicate L f0
+    → splice (L - 2 * n) n l (replicate n x) ≡ freshF (L - 2 * n) n
+pairs-put L n x l h e q =
+    let Z = replicate (L - 2 * n) f0 in
+    ap₂ (λ (r : List Float) (y : Float). splice (L - 2 * n) n r (replicate n y))
+    (q
+    ∙ ap (λ (k : ℕ). replicate k f0) (let z : L ≡ (L - 2 * n) + (n + n) = omega arith in z)
+    ∙ sym (replicate-append-replicate (L - 2 * n) (n + n) f0)
+    ∙ ap (λ (r : List Float). Z ++ r) (sym (replicate-append-replicate n n f0)))
+    e
+    ∙ splice-mid Z (replicate n f0) (replicate n f0) (replicate n nan) (L - 2 * n) n (length-replicate (L - 2 * n) f0) (length-replicate n f0)
+
+-- 0.0 / 0.0
+pub no-number : div binary64 f0 f0 ≡ nan
+unfolding div ofBits
+no-number = refl
 
 -- ---- how long the f64 store must be
 

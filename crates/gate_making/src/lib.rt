@@ -1,12 +1,12 @@
-// A fresh gate: its settings, each distinct length with nothing pushed, the floats 0.
+// A fresh gate: its settings, each distinct length with nothing pushed, the floats 0, no rise floor used yet.
 ghost use mathlib.Core.Path.{_≡_};
 ghost use mathlib.Core.Bool.{true, _&&_, _||_};
 ghost use mathlib.Core.List.{[]};
-ghost use Prim.Native.Nat.{_<_};
+ghost use Prim.Native.Nat.{_-_, _*_, _<_, _≤_};
 ghost use lib.ListN.{length, getD};
 ghost use Rattle.model.specs.Gate.{distinct};
 ghost use Rattle.model.specs.GateCalls.{goodLengths, goodLevel, absent, stored as storedAs, gateMakeRefusal, gateNew};
-ghost use Rattle.gate_lengths.specs.Makes.{lengthPut, withLengths, freshU};
+ghost use Rattle.gate_lengths.specs.Makes.{lengthPut, withLengths, freshU, freshF};
 ghost use Rattle.model.specs.GateCalls.{gateFLenFor};
 
 // A level as the store has it: 800 is added. 65535 for one that is out of range.
@@ -108,6 +108,16 @@ fn fresh_u(gate: &mut [u16], n: u16, on: u16, off: u16, early: u16, lengths: &[u
     put_lengths(gate, lengths);
 }
 
+// R-3: no rise floor was used yet, which a NaN says; all else is 0.
+fn fresh_f(gate_f: &mut [f64], n: usize)
+    requires { ⌜ 2 * n ≤ length (now «gate_f») ⌝ }
+    ensures { λ _. ⌜ now («gate_f» .exit) ≡ freshF (length (now («gate_f» .entry)) - 2 * n) n ⌝ }
+{
+    let floats = gate_f.len();
+    bank_making::fill(gate_f, 0, floats, 0.0);
+    bank_making::fill(gate_f, floats - 2 * n, n, 0.0 / 0.0);
+}
+
 // Makes a fresh gate in the lent stores: 0, or the number of the refusal.
 pub fn gate_new(
     gate: &mut [u16],
@@ -132,8 +142,7 @@ pub fn gate_new(
         stored(early),
         lengths,
     );
-    let floats = gate_f.len();
-    bank_making::fill(gate_f, 0, floats, 0.0);
+    fresh_f(gate_f, n);
     0
 }
 

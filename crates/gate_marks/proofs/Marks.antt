@@ -2,11 +2,11 @@
 use mathlib.Core.Path.{_≡_, refl, sym, ap, ap₂, _∙_}
 use mathlib.Core.Bool.{Bool, true, false, not, _&&_, _||_}
 use mathlib.Core.List.{List}
-use Prim.Native.Nat.{ℕ, _<_}
+use Prim.Native.Nat.{ℕ, _+_, _-_, _<_}
 use native.Mathlib.Nat.{zero-add}
 use native.Mathlib.Omega.{arith}
 use lib.Dec.{eqb}
-use lib.ListN.{getD}
+use lib.ListN.{length, getD}
 use lib.IntN.{pos}
 use lib.Ieee.{Float, nan, binary64, add, le, lt, ofBits, ofInt}
 use borrow.Author.Tests.{eq-eqb, ne-eqb}
@@ -16,12 +16,12 @@ use Rattle.laws.proofs.Tabs.{tab-same}
 use Rattle.laws.proofs.Defaults.{getD-any}
 use Rattle.model.specs.Numbers.{f0}
 use Rattle.model.specs.Bank.{FloorBank}
-use Rattle.model.specs.Readings.{effectiveAt, riseAt}
-use Rattle.model.specs.Ladder.{ladder}
+use Rattle.model.specs.Readings.{effectiveAt}
 use Rattle.model.specs.Windows.{anyRises}
-use Rattle.model.specs.Gate.{Gate, levelOf, earlyRise, thresholdAt, windowRise, dropAt, riseBytes, dropBytes}
-use Rattle.model.specs.GateStores.{gateOf}
+use Rattle.model.specs.Gate.{Gate, levelOf, earlyRise, windowRise, dropAt, riseBytes, dropBytes}
+use Rattle.model.specs.GateStores.{pairStart, gateOf}
 use Rattle.model.specs.GoodGate.{GateReady}
+use Rattle.model.proofs.GoodGates.{threshold-of}
 use Rattle.gate_cursors.proofs.Lengths.{smooth-within}
 
 -- ---- one channel
@@ -42,11 +42,19 @@ module _ (u : List ℕ) (f : List Float) (b : FloorBank) (k : ℕ) (r : GateRead
     unfolding dropAt gateOf
     drop-is = λ i. lt (smooth-at u f k r h i) (add binary64 (q i) (levelOf (getD u 3 0)))
 
-  pub window-is : (x y t : Float) → x ≡ riseAt b k → y ≡ levelOf (getD u 2 0) → t ≡ ladder (add binary64 x y)
-      → anyRises (getD u 0 0) t k (gateOf u f .looks) ≡ windowRise (gateOf u f) b k
-  unfolding windowRise thresholdAt gateOf
-  window-is x y t p q s =
-      ap (λ (z : Float). anyRises (getD u 0 0) z k (gateOf u f .looks)) (s ∙ ap₂ (λ (v w : Float). ladder (add binary64 v w)) p q)
+-- the remembered threshold, a the place of the first
+pub threshold-is : (u : List ℕ) (f : List Float) (k a : ℕ) → GateReady u f → k < getD u 0 0 → a ≡ length f - getD u 0 0
+    → getD f (a + k) nan ≡ getD (gateOf u f .threshold) k f0
+threshold-is u f k a r h e =
+    let z : a ≡ pairStart u + getD u 0 0 = omega (arith, r .long-f) in
+    ap (λ (i : ℕ). getD f (i + k) nan) z
+    ∙ getD-any f (pairStart u + getD u 0 0 + k) nan f0 (omega (arith, r .long-f))
+    ∙ sym (ap (λ (l : List Float). getD l k f0) (threshold-of u f) ∙ getD-part (pairStart u + getD u 0 0) (getD u 0 0) f k f0 h)
+
+pub window-is : (u : List ℕ) (f : List Float) (k : ℕ) (t : Float) → t ≡ getD (gateOf u f .threshold) k f0
+    → anyRises (getD u 0 0) t k (gateOf u f .looks) ≡ windowRise (gateOf u f) k
+unfolding windowRise gateOf
+window-is u f k t e = ap (λ (z : Float). anyRises (getD u 0 0) z k (gateOf u f .looks)) e
 
 -- ---- early rise as a number
 
@@ -69,12 +77,12 @@ after-first s b e h q = rw (ne-eqb s 0 h) q
 
 module _ (g : Gate) (b : FloorBank) (n : ℕ) (l : List ℕ) (e : n ≡ g .n) where
   module _ (z : g .started ≡ 0 → ⊥) where
-    pub rises-marked : l ≡ tab n (λ k. one (earlyRise g b k || windowRise g b k)) → l ≡ riseBytes g b
+    pub rises-marked : l ≡ tab n (λ k. one (earlyRise g b k || windowRise g k)) → l ≡ riseBytes g b
     unfolding riseBytes
     rises-marked h =
         h
         ∙ tab-same n (g .n) _ _ e
-        (λ k _. ap (λ (t : Bool). one (not t && (earlyRise g b k || windowRise g b k))) (sym (ne-eqb (g .started) 0 z)))
+        (λ k _. ap (λ (t : Bool). one (not t && (earlyRise g b k || windowRise g k))) (sym (ne-eqb (g .started) 0 z)))
 
     pub drops-marked : l ≡ tab n (λ k. one (dropAt g b k)) → l ≡ dropBytes g b
     unfolding dropBytes
@@ -86,7 +94,7 @@ module _ (g : Gate) (b : FloorBank) (n : ℕ) (l : List ℕ) (e : n ≡ g .n) wh
     rises-cleared =
         h
         ∙ tab-same n (g .n) _ _ e
-        (λ k _. ap (λ (t : Bool). one (not t && (earlyRise g b k || windowRise g b k))) (sym (eq-eqb (g .started) 0 z)))
+        (λ k _. ap (λ (t : Bool). one (not t && (earlyRise g b k || windowRise g k))) (sym (eq-eqb (g .started) 0 z)))
 
     pub drops-cleared : l ≡ dropBytes g b
     unfolding dropBytes

@@ -4,12 +4,11 @@ ghost use mathlib.Core.Bool.{not, _&&_, _||_};
 ghost use Prim.Native.Nat.{_<_};
 ghost use lib.Dec.{eqb};
 ghost use lib.ListN.{length, getD};
-ghost use lib.Ieee.{binary64, add, le, lt};
+ghost use lib.Ieee.{nan, binary64, add, le, lt};
 ghost use Rattle.laws.specs.Lists.{tab};
 ghost use Rattle.model.specs.Stores.{bankOf};
-ghost use Rattle.model.specs.Readings.{effectiveAt};
 ghost use Rattle.model.specs.Windows.{anyRises};
-ghost use Rattle.model.specs.Gate.{levelOf, earlyRise, windowRise};
+ghost use Rattle.model.specs.Gate.{levelOf, windowRise};
 ghost use Rattle.model.specs.GateStores.{gateOf};
 ghost use Rattle.model.specs.GoodGate.{GateReady};
 ghost use Rattle.gate_cursors.specs.Paired.{Paired, Marked};
@@ -17,20 +16,13 @@ use gate_cursors::cursor;
 
 const ABSENT: u16 = 65535;
 
-// A level as the store has it, in dB.
-fn level(x: u16) -> f64
-    ensures { λ r. ⌜ r ≡ levelOf x ⌝ }
-{
-    ((x as f64) - 800.0) / 8.0
-}
-
 pub fn early_rise(early: u16, smoothed: f64, effective: f64) -> bool
     ensures { λ r. ⌜ r ≡ (not (eqb early 65535) && le (add binary64 effective (levelOf early)) smoothed) ⌝ }
 {
     if early == ABSENT {
         return false;
     }
-    smoothed >= effective + level(early)
+    smoothed >= effective + gate_pairs::level(early)
 }
 
 // Whether the windows of some length rise.
@@ -55,30 +47,22 @@ fn window_rise(gate: &[u16], gate_f: &[f64], k: usize, threshold: f64) -> bool
     false
 }
 
-// Early rise is the cheaper test and comes first.
-fn rise_at(
-    bank: &[u16],
-    bank_f: &[f64],
-    gate: &[u16],
-    gate_f: &[f64],
-    k: usize,
-    effective: f64,
-) -> bool
-    requires { ⌜ Paired (now bank) (now «bank_f») (now gate) (now «gate_f») × (k < getD (now gate) 0 0) × (effective ≡ effectiveAt (bankOf (now bank) (now «bank_f»)) k) ⌝ }
-    ensures { λ r. ⌜ r ≡ (earlyRise (gateOf (now (gate .entry)) (now («gate_f» .entry))) (bankOf (now (bank .entry)) (now («bank_f» .entry))) k || windowRise (gateOf (now (gate .entry)) (now («gate_f» .entry))) (bankOf (now (bank .entry)) (now («bank_f» .entry))) k) ⌝ }
+// Early rise is the cheaper test and comes first. The threshold is the remembered one (R-3), among the last n floats.
+fn rise_at(gate: &[u16], gate_f: &[f64], k: usize, effective: f64) -> bool
+    requires { ⌜ GateReady (now gate) (now «gate_f») × (k < getD (now gate) 0 0) ⌝ }
+    ensures { λ r. ⌜ r ≡ ((not (eqb (getD (now (gate .entry)) 4 0) 65535) && le (add binary64 effective (levelOf (getD (now (gate .entry)) 4 0))) (getD (now («gate_f» .entry)) k nan)) || windowRise (gateOf (now (gate .entry)) (now («gate_f» .entry))) k) ⌝ }
 {
     if early_rise(gate[4], gate_f[k], effective) {
         return true;
     }
-    let floor = channel_readings::rise_at(bank, bank_f, k);
-    let threshold = ladder::ladder(floor + level(gate[2]));
-    window_rise(gate, gate_f, k, threshold)
+    let thresholds = gate_f.len() - laws::wide(gate[0]);
+    window_rise(gate, gate_f, k, gate_f[thresholds + k])
 }
 
 fn drop_at(off: u16, smoothed: f64, effective: f64) -> bool
     ensures { λ r. ⌜ r ≡ lt smoothed (add binary64 effective (levelOf off)) ⌝ }
 {
-    smoothed < effective + level(off)
+    smoothed < effective + gate_pairs::level(off)
 }
 
 // The marks of each channel of a gate that has started.
@@ -98,7 +82,7 @@ fn mark(
     let mut k: usize = 0;
     while k < n {
         let effective = channel_readings::effective_at(bank, bank_f, k);
-        let rises = rise_at(bank, bank_f, gate, gate_f, k, effective);
+        let rises = rise_at(gate, gate_f, k, effective);
         rise[k] = rises as u8;
         let drops = drop_at(gate[3], gate_f[k], effective);
         drop[k] = drops as u8;

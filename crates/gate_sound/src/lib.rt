@@ -141,7 +141,7 @@ pub fn look_size(n: usize, m: usize) -> usize
     2 * m * n + n + n
 }
 
-// The floats of a sound gate.
+// The floats of a sound gate: the smoothed dB, the lengths, and the pairs (R-3).
 pub fn f_len(gate: &[u16]) -> usize
     requires { ⌜ (length (now gate) ≡ 30) × (soundGate (now gate) ≡ true) ⌝ }
     ensures { λ r. ⌜ r ≡ gateFLen (now (gate .entry)) ⌝ }
@@ -154,5 +154,5 @@ pub fn f_len(gate: &[u16]) -> usize
         floats += look_size(n, laws::wide(gate[6 + 3 * j]));
         j += 1;
     }
-    floats
+    floats + 2 * n
 }

@@ -10,14 +10,14 @@ use lib.Ieee.{Float}
 use Rattle.laws.specs.Lists.{part, splice, tab, joined}
 use Rattle.laws.proofs.Lists.{length-part, length-splice, getD-before, getD-past, splice-mid}
 use Rattle.laws.proofs.Tabs.{length-tab, map-tab, length-joined, parts-begin, parts-turn}
-use Rattle.laws.proofs.Runs.{replaced, run-upto, run-begins, run-long, run-lent, run-turns, run-ends}
+use Rattle.laws.proofs.Runs.{replaced, run-upto, run-begins, run-long, run-lent, run-turns}
 use Rattle.model.specs.Windows.{PowerLooks, stepLook}
 use Rattle.model.specs.Gate.{Gate}
 use Rattle.model.specs.GateStores.{triple, gateU, gateF, mAt, cursorAt, filledAt, lookF, lookOf, gateOf}
 use Rattle.model.proofs.WindowStores.{look-forth}
 use Rattle.model.specs.GoodGate.{GoodLook, GoodGate, GateReady}
-use Rattle.model.proofs.GateStores.{gate-forth-u, gate-forth-f, lookIn, startAt, sizeAt, starts-meet, header, zeros-forth}
-use Rattle.model.proofs.GoodGates.{looks-of, smooth-of, gate-back, good-gate-ready, sizes, look-good, look-fits, length-lookF}
+use Rattle.model.proofs.GateStores.{gate-forth-u, gate-forth-f, lookIn, startAt, sizeAt, starts-meet, header, zeros-forth, pairs-forth}
+use Rattle.model.proofs.GoodGates.{looks-of, smooth-of, used-of, threshold-of, gate-back, good-gate-ready, sizes, look-good, look-fits, length-lookF}
 use Rattle.model.proofs.FreshGates.{withLooks, withSmooth, withStarted, good-step-look, step-look-m}
 
 -- ---- the two stores after k turns
@@ -110,8 +110,10 @@ module _ (u : List ℕ) (f : List Float) (S : PowerLooks → PowerLooks) (r : Ga
 
   pub looks-end-f : looksF u f S (getD u 5 0) ≡ gateF (withLooks (gateOf u f) (map S (gateOf u f .looks)))
   looks-end-f =
-      run-ends (startAt u) C f (λ j. lookF (S (lookIn u f j))) (omega (arith, r .long-f))
-      ∙ ap₂ (λ (p q : List Float). p ++ q) (sym (smooth-of u f)) (ap joined (sym (ap (map lookF) stepped ∙ map-tab lookF C (λ j. S (lookIn u f j)))))
+      (λ i.
+      sym (smooth-of u f) i
+      ++ (joined (sym (ap (map lookF) stepped ∙ map-tab lookF C (λ j. S (lookIn u f j))) i)
+      ++ sym (ap₂ (λ (p q : List Float). p ++ q) (used-of u f) (threshold-of u f) ∙ pairs-forth u f (r .long-f)) i))
     where
       C : ℕ
       C = getD u 5 0
@@ -172,7 +174,7 @@ steady-step u f sample r =
 -- ---- the other parts of a gate update
 
 pub put-smooth : (g : Gate) (x : List Float) → length (g .smooth) ≡ g .n → splice 0 (g .n) (gateF g) x ≡ gateF (withSmooth g x)
-put-smooth g x e = splice-mid [] (g .smooth) (joined (map lookF (g .looks))) x 0 (g .n) refl e
+put-smooth g x e = splice-mid [] (g .smooth) (joined (map lookF (g .looks)) ++ (g .used ++ g .threshold)) x 0 (g .n) refl e
 
 pub put-started : (g : Gate) (s : ℕ) → set (gateU g) 1 s ≡ gateU (withStarted g s)
 put-started g s = refl

@@ -21,6 +21,8 @@ with g looks′ smooth′ =
       early = g .early;
       looks = looks′;
       smooth = smooth′;
+      used = g .used;
+      threshold = g .threshold;
     }
 
 unfoldable pub smoothStep : List Float → Gate → Gate

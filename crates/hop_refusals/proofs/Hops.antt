@@ -12,6 +12,7 @@ use Rattle.laws.specs.Tests.{anyBelow, first}
 use Rattle.laws.proofs.Tests.{by-test, and-false-r}
 use Rattle.laws.proofs.Floats.{ne-self}
 use Rattle.model.specs.Numbers.{f0}
+use Rattle.model.specs.Layout.{blockChannels}
 use Rattle.model.specs.Refusals.{blockSize, garbled}
 use Rattle.hop_refusals.specs.Checks.{sharingOf, hopRefusal}
 
@@ -35,13 +36,13 @@ unfolding anyBelow
 any-but-last n p h = ap (λ (b : Bool). anyBelow n p || b) h ∙ or-false-r (anyBelow n p)
 
 -- each channel below `sharingOf n` has company in its block; one that is not has none
-shares : (n k : ℕ) → k < sharingOf n → ltb 1 (blockSize n (k / 32)) ≡ true
+shares : (n k : ℕ) → k < sharingOf n → ltb 1 (blockSize n (k / blockChannels)) ≡ true
 shares n k h =
-    by-test (eqb (n % 32) 1) (λ e. lt-ltb 1 (blockSize n (k / 32)) (omega (arith, rw e at h, eqb-true (n % 32) 1 e)))
-    (λ e. lt-ltb 1 (blockSize n (k / 32)) (omega (arith, rw e at h, eqb-false (n % 32) 1 e)))
+    by-test (eqb (n % blockChannels) 1) (λ e. lt-ltb 1 (blockSize n (k / blockChannels)) (omega (arith, rw e at h, eqb-true (n % blockChannels) 1 e)))
+    (λ e. lt-ltb 1 (blockSize n (k / blockChannels)) (omega (arith, rw e at h, eqb-false (n % blockChannels) 1 e)))
 
-alone : (m : ℕ) → suc m % 32 ≡ 1 → ltb 1 (blockSize (suc m) (m / 32)) ≡ false
-alone m e = le-ltb 1 (blockSize (suc m) (m / 32)) (omega arith)
+alone : (m : ℕ) → suc m % blockChannels ≡ 1 → ltb 1 (blockSize (suc m) (m / blockChannels)) ≡ false
+alone m e = le-ltb 1 (blockSize (suc m) (m / blockChannels)) (omega arith)
 
 -- an entry read is the same, whatever would be read past the end
 read : (l : List Float) (k : ℕ) (d e : Float) → k < length l → getD l k d ≡ getD l k e
@@ -58,7 +59,7 @@ module _ (db : List Float) where
   nan-read k h = ne-self (getD db k nan) ∙ ap isNan (read db k nan f0 h)
 
   abbrev counts : ℕ → ℕ → Bool
-  counts n k = nanAt k && ltb 1 (blockSize n (k / 32))
+  counts n k = nanAt k && ltb 1 (blockSize n (k / blockChannels))
 
   same : (n k : ℕ) → k < sharingOf n → nanAt k ≡ counts n k
   same n k h = sym (ap (λ (b : Bool). nanAt k && b) (shares n k h) ∙ and-true-r (nanAt k))
@@ -66,11 +67,11 @@ module _ (db : List Float) where
   rest : (n : ℕ) → anyBelow (sharingOf n) (counts n) ≡ anyBelow n (counts n)
   rest zero = refl
   rest (suc m) =
-      by-test (eqb (suc m % 32) 1)
+      by-test (eqb (suc m % blockChannels) 1)
       (λ e.
       ap (λ (b : Bool). anyBelow (cond b (suc m - 1) (suc m)) (counts (suc m))) e
       ∙ ap (λ (k : ℕ). anyBelow k (counts (suc m))) (let z : suc m - 1 ≡ m = omega arith in z)
-      ∙ sym (any-but-last m (counts (suc m)) (and-false-r (nanAt m) (ltb 1 (blockSize (suc m) (m / 32))) (alone m (eqb-true (suc m % 32) 1 e)))))
+      ∙ sym (any-but-last m (counts (suc m)) (and-false-r (nanAt m) (ltb 1 (blockSize (suc m) (m / blockChannels))) (alone m (eqb-true (suc m % blockChannels) 1 e)))))
       (λ e. ap (λ (b : Bool). anyBelow (cond b (suc m - 1) (suc m)) (counts (suc m))) e)
 
   pub garbled-is : (n : ℕ) → anyBelow (sharingOf n) nanAt ≡ garbled n db

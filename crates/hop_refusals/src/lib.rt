@@ -5,12 +5,13 @@ ghost use Prim.Native.Nat.{_≤_};
 ghost use lib.ListN.{length};
 ghost use Rattle.model.specs.Refusals.{garbled as garbledBy};
 ghost use Rattle.hop_refusals.specs.Checks.{sharingOf, hopRefusal};
+use model::layout::BLOCK_CHANNELS;
 
 // How many of n channels share a block with another: all but a last one that has a block of its own.
 fn sharing(n: usize) -> usize
     ensures { λ r. ⌜ (r ≡ sharingOf n) × (r ≤ n) ⌝ }
 {
-    if n % 32 == 1 {
+    if n % BLOCK_CHANNELS == 1 {
         return n - 1;
     }
     n

@@ -1,52 +1,63 @@
-// Document 01, "Windows, ladder, gate": the ladder, which stands in for powf.
+// Document 01, "Windows, ladder, gate": the ladder, which stands in for powf; document 02, R-5: rounded upward.
 ghost use mathlib.Core.Path.{_≡_};
-ghost use Prim.Native.Nat.{_≤_};
+ghost use Prim.Native.Nat.{_+_, _≤_};
+ghost use Rattle.model.specs.Layout.{rungsBelow, rungsAbove};
 ghost use Rattle.model.specs.Ring.{floorHeld};
-ghost use Rattle.model.specs.Ladder.{held, floorBelow, rung, rungValue, ladder};
+ghost use Rattle.model.specs.Ladder.{held, ceilHeld, rung, rungValue, ladder};
+use model::layout::LADDER_MAX_DB;
+use model::layout::LADDER_MIN_DB;
+use model::layout::PAST_RUNGS_F64;
+use model::layout::RUNGS_ABOVE_U16;
+use model::layout::RUNGS_BELOW;
+use model::layout::RUNGS_BELOW_U16;
 
 mod tables;
 
-// The floor of x, held to 0..3200; a NaN gives 0.
+// The floor of x, held to 0..RUNGS_ABOVE_U16; a NaN gives 0.
 fn floor_held(x: f64) -> u16
-    ensures { λ r. ⌜ (r ≡ floorHeld 3200 x) × (r ≤ 3200) ⌝ }
+    ensures { λ r. ⌜ (r ≡ floorHeld rungsAbove x) × (r ≤ rungsAbove) ⌝ }
 {
     if x >= 0.0 {
-        if x < 3201.0 {
+        if x < PAST_RUNGS_F64 {
             std::num::truncating_f64_to_u64(x) as u16
         } else {
-            3200
+            RUNGS_ABOVE_U16
         }
     } else {
         0
     }
 }
 
-// The rung of a z below 0, where x is -z: a fraction of x takes it one rung down.
-fn rung_below(x: f64) -> usize
-    ensures { λ r. ⌜ (r ≡ floorBelow (floorHeld 1920 x) x) × (r ≤ 1920) ⌝ }
+// The least whole number not below x, held to 0..RUNGS_ABOVE_U16: one more than the floor where that cuts something off.
+fn ceil_held(x: f64) -> u16
+    ensures { λ r. ⌜ (r ≡ ceilHeld rungsAbove x) × (r ≤ rungsAbove) ⌝ }
 {
     let t = floor_held(x);
-    if t >= 1920 {
-        return 0;
+    if t >= RUNGS_ABOVE_U16 {
+        return RUNGS_ABOVE_U16;
     }
-    if t as f64 == x {
-        return 1920 - laws::wide(t);
+    if (t as f64) < x {
+        return t + 1;
     }
-    1919 - laws::wide(t)
+    t
 }
 
-// floor(z) + 1920. An eighth of a dB is a rung, from -240 dB on.
+// The least whole number not below z, and RUNGS_BELOW. An eighth of a dB is a rung; below 0 dB the floor of -z is as far above.
 fn rung(z: f64) -> usize
-    ensures { λ r. ⌜ (r ≡ rung z) × (r ≤ 5120) ⌝ }
+    ensures { λ r. ⌜ (r ≡ rung z) × (r ≤ rungsBelow + rungsAbove) ⌝ }
 {
     if z >= 0.0 {
-        return 1920 + laws::wide(floor_held(z));
+        return RUNGS_BELOW + laws::wide(ceil_held(z));
     }
-    rung_below(-z)
+    let t = floor_held(-z);
+    if t >= RUNGS_BELOW_U16 {
+        return 0;
+    }
+    RUNGS_BELOW - laws::wide(t)
 }
 
 fn rung_value(r: usize) -> f64
-    requires { ⌜ r ≤ 5120 ⌝ }
+    requires { ⌜ r ≤ rungsBelow + rungsAbove ⌝ }
     ensures { λ v. ⌜ v ≡ rungValue r ⌝ }
 {
     tables::root(r % 80) as f64 * tables::ten(r / 80)
@@ -55,16 +66,16 @@ fn rung_value(r: usize) -> f64
 fn held(s: f64) -> f64
     ensures { λ r. ⌜ r ≡ held s ⌝ }
 {
-    if s < -240.0 {
-        return -240.0;
+    if s < LADDER_MIN_DB {
+        return LADDER_MIN_DB;
     }
-    if s > 400.0 {
-        return 400.0;
+    if s > LADDER_MAX_DB {
+        return LADDER_MAX_DB;
     }
     s
 }
 
-// 10^(s/10), by eighths of a dB.
+// 10^(s/10), by eighths of a dB, upward.
 pub fn ladder(s: f64) -> f64
     ensures { λ r. ⌜ r ≡ ladder s ⌝ }
 {

@@ -1,7 +1,9 @@
 // The ladder's two tables.
 ghost use mathlib.Core.Path.{_≡_};
 ghost use Prim.Native.Nat.{_<_};
+ghost use Rattle.model.specs.Layout.{tensLen};
 ghost use Rattle.model.specs.Ladder.{rootOf, tenTo};
+use model::layout::TENS_LEN;
 
 // T[j] is the largest whole t with t^80 <= 10^(720 + j): 10^(j/80) with nine decimals, cut.
 const ROOTS: [u64; 80] = [
@@ -87,8 +89,10 @@ const ROOTS: [u64; 80] = [
     9716279515,
 ];
 
-// 10^(q - 33): what T[j] is multiplied by, with its nine decimals.
-const TENS: [f64; 65] = [
+// What T[j] is multiplied by, with its nine decimals: powers of ten, from the lowest that the ladder needs.
+const TENS: [f64; TENS_LEN] = [
+    1e-35,
+    1e-34,
     1e-33,
     1e-32,
     1e-31,
@@ -164,7 +168,7 @@ pub fn root(j: usize) -> u64
 }
 
 pub fn ten(q: usize) -> f64
-    requires { ⌜ q < 65 ⌝ }
+    requires { ⌜ q < tensLen ⌝ }
     ensures { λ r. ⌜ r ≡ tenTo q ⌝ }
 {
     TENS[q]

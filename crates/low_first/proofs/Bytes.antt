@@ -7,7 +7,7 @@ use native.Mathlib.Numerals.{add-one}
 use native.Mathlib.Omega.{arith}
 use lib.ListN.{length, getD}
 use lib.Seq.{ext-getD}
-use Rattle.laws.specs.Lists.{part, tab}
+use Rattle.laws.specs.Lists.{part}
 use Rattle.laws.proofs.Lists.{length-part, getD-part}
 use Rattle.laws.proofs.Tabs.{length-tab, getD-tab}
 use Rattle.low_first.specs.LowFirst.{byteAt, four, lowTwo, lowFour, lowEight, without, lowBytes}

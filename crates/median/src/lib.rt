@@ -4,7 +4,9 @@ ghost use Prim.Native.Nat.{_*_, _<_};
 ghost use lib.ListN.{length};
 ghost use lib.Ieee.{lt, le};
 ghost use Rattle.laws.specs.Lists.{count};
+ghost use Rattle.model.specs.Layout.{blockChannels};
 ghost use Rattle.model.specs.Bank.{block, standsAt, ranked, median};
+use model::layout::BLOCK_CHANNELS;
 
 fn count_below(l: &[f64], x: f64) -> usize
     ensures { λ r. ⌜ r ≡ count (λ y. lt y x) (now (l .entry)) ⌝ }
@@ -68,15 +70,15 @@ pub fn median(l: &[f64]) -> f64
     0.5 * (lower + upper)
 }
 
-// Block i's median: of 32 values, or of what is left in the last block.
+// Block i's median: of a whole block's values, or of what is left in the last block.
 pub fn block_median(l: &[f64], i: usize) -> f64
-    requires { ⌜ 32 * i < length (now l) ⌝ }
+    requires { ⌜ blockChannels * i < length (now l) ⌝ }
     ensures { λ r. ⌜ r ≡ median (block i (now (l .entry))) ⌝ }
 {
-    let a = 32 * i;
-    if l.len() - a < 32 {
+    let a = BLOCK_CHANNELS * i;
+    if l.len() - a < BLOCK_CHANNELS {
         return median(&l[a..]);
     }
-    let e = a + 32;
+    let e = a + BLOCK_CHANNELS;
     median(&l[a..e])
 }

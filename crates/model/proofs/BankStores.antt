@@ -11,6 +11,7 @@ use Rattle.laws.specs.Lists.{part, splice, tab, joined}
 use Rattle.laws.proofs.Lists.{length-part, part-mid, splice-mid, row}
 use Rattle.laws.proofs.Tabs.{tab-ext, map-tab}
 use Rattle.laws.proofs.Joined.{joined-parts, part-joined, parts-meet, part-skip, splice-skip, part-last, splice-last}
+use Rattle.model.specs.Layout.{channelLen}
 use Rattle.model.specs.Bank.{blocks}
 use Rattle.model.specs.Stores.{chanU, chanOf, bankU, bankF, bankOf, base, chanPart, bankLen, bankFLen}
 use Rattle.model.proofs.Channels.{chan-forth}
@@ -24,20 +25,20 @@ header (a ∷ b ∷ []) e = absurd (omega arith)
 header (a ∷ b ∷ c ∷ u) e = refl
 
 -- the channels, read and written again
-channels-forth : (u : List ℕ) (n : ℕ) → length u ≡ bankLen n → joined (map chanU (tab n (λ k. chanOf (chanPart n u k)))) ≡ part (base n) (533 * n) u
+channels-forth : (u : List ℕ) (n : ℕ) → length u ≡ bankLen n → joined (map chanU (tab n (λ k. chanOf (chanPart n u k)))) ≡ part (base n) (channelLen * n) u
 channels-forth u n e =
     ap joined
     (map-tab chanU n (λ k. chanOf (chanPart n u k))
     ∙ tab-ext n (λ k. chanU (chanOf (chanPart n u k))) (chanPart n u)
-    (λ k h. chan-forth (chanPart n u k) (length-part (base n + 533 * k) 533 u (omega (arith, row 533 k n h)))))
-    ∙ joined-parts (base n) 533 n u
+    (λ k h. chan-forth (chanPart n u k) (length-part (base n + channelLen * k) channelLen u (omega (arith, row channelLen k n h)))))
+    ∙ joined-parts (base n) channelLen n u
 
 pub bank-forth-u : (u : List ℕ) (f : List Float) → length u ≡ bankLen (getD u 0 0) → bankU (bankOf u f) ≡ u
 unfolding bankOf
 bank-forth-u u f e =
     ap (λ (r : List ℕ). getD u 0 0 ∷ getD u 1 0 ∷ getD u 2 0 ∷ (part 3 B u ++ r)) (channels-forth u N e)
     ∙ ap (λ (r : List ℕ). getD u 0 0 ∷ getD u 1 0 ∷ getD u 2 0 ∷ r)
-    (parts-meet 3 B (3 + B) (533 * N) u refl ∙ take-all (B + 533 * N) (drop 3 u) (omega (arith, length-drop 3 u)))
+    (parts-meet 3 B (3 + B) (channelLen * N) u refl ∙ take-all (B + channelLen * N) (drop 3 u) (omega (arith, length-drop 3 u)))
     ∙ sym (header u (omega arith))
   where
     N : ℕ
@@ -171,8 +172,8 @@ pub set-started : (n phase started x : ℕ) (l : List ℕ) → set (n ∷ phase 
 set-started n phase started x l = refl
 
 -- channel k of m
-pub get-chan : (n phase started B m k : ℕ) (seeds : List ℕ) (cs : ℕ → List ℕ) → length seeds ≡ B → ((j : ℕ) → j < m → length (cs j) ≡ 533) → k < m
-    → part (3 + B + 533 * k) 533 (n ∷ phase ∷ started ∷ (seeds ++ joined (tab m cs))) ≡ cs k
+pub get-chan : (n phase started B m k : ℕ) (seeds : List ℕ) (cs : ℕ → List ℕ) → length seeds ≡ B → ((j : ℕ) → j < m → length (cs j) ≡ channelLen) → k < m
+    → part (3 + B + channelLen * k) channelLen (n ∷ phase ∷ started ∷ (seeds ++ joined (tab m cs))) ≡ cs k
 get-chan n phase started B m k seeds cs long wide h =
-    part-skip (n ∷ phase ∷ started ∷ seeds) (joined (tab m cs)) (3 + B) (533 * k) (3 + B + 533 * k) 533 (omega arith) refl
-    ∙ part-joined 533 m k cs wide h
+    part-skip (n ∷ phase ∷ started ∷ seeds) (joined (tab m cs)) (3 + B) (channelLen * k) (3 + B + channelLen * k) channelLen (omega arith) refl
+    ∙ part-joined channelLen m k cs wide h

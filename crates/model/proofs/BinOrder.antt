@@ -13,7 +13,8 @@ use lib.Ieee.Nearest.{div-mono}
 use lib.Ieee.Scale.{finite}
 use lib.Ieee.Positive.{positive}
 use Rattle.laws.proofs.Rounding.{AtMost, vanish, Ordered, lowest, highest, finites, ordered, add-rises, add-swaps, mul-rises, div-rises, ofInt-rises}
-use Rattle.model.specs.Numbers.{half, histMin}
+use Rattle.model.specs.Numbers.{half}
+use Rattle.model.specs.Layout.{histMin}
 use Rattle.model.specs.Ring.{floorHeld, binOf, centreOf}
 use Rattle.model.proofs.Bins.{floor-le}
 

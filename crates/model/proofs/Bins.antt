@@ -1,4 +1,4 @@
--- The floor of a float that two comparisons have bounded, and that a bin is below 280. Assumes nothing.
+-- The floor of a float that two comparisons have bounded, and that a bin is below `bins`. Assumes nothing.
 use mathlib.Core.Path.{_≡_, refl, sym, subst, _∙_}
 use mathlib.Core.Bool.{Bool, true, false, _&&_, _||_}
 use Prim.Native.Nat.{ℕ, zero, suc, _+_, _*_, _/_, _^_, _<_, _≤_}
@@ -10,7 +10,8 @@ use lib.Ieee.{Float, nan, inf, fin, up, down, binary64, add, div, lt, le, eq, to
 use lib.Ieee.Fits.{down-pos}
 use borrow.Author.Tests.{ltb-true, ltb-false, eqb-true, lt-ltb}
 use Rattle.laws.proofs.Tests.{clash, and-l}
-use Rattle.model.specs.Numbers.{f140, half}
+use Rattle.model.specs.Numbers.{half}
+use Rattle.model.specs.Layout.{depth, bins, lastBin}
 use Rattle.model.specs.Ring.{floorHeld, binOf}
 
 -- a test that holds, as a type
@@ -35,12 +36,12 @@ pub record Between (z : Float) (top : ℕ) : Type 0 where
   pub small : toUnsigned 64 z ≤ top
 
 -- 0 is at most any magnitude
-nonneg : (u d : ℕ) → (ltb (0 * d) (u * 1) || (eqb (0 * d) (u * 1) && true)) ≡ true
+pub nonneg : (u d : ℕ) → (ltb (0 * d) (u * 1) || (eqb (0 * d) (u * 1) && true)) ≡ true
 nonneg zero d = simp zero-mul
 nonneg (suc u) d = simp (zero-mul, mul-one, lt-ltb 0 (suc u) (omega arith))
 
 -- a negative number that is 0 or more is -0
-minus-zero : (u d : ℕ) → (eqb (0 * d) (u * 1) && eqb (0 * d) 0) ≡ true → u ≡ 0
+pub minus-zero : (u d : ℕ) → (eqb (0 * d) (u * 1) && eqb (0 * d) 0) ≡ true → u ≡ 0
 minus-zero u d h =
     let k = eqb-true (0 * d) (u * 1) (and-l (eqb (0 * d) (u * 1)) (eqb (0 * d) 0) h) in
     omega (arith, k, zero-mul d)
@@ -103,6 +104,6 @@ floor-le top (inf false) = omega arith
 floor-le top (fin true m e) = omega arith
 floor-le top (fin false m e) = omega arith
 
-pub bin-below : (p : Float) → binOf p < 280
+pub bin-below : (p : Float) → binOf p < bins
 unfolding binOf
-bin-below p = omega (arith, floor-le 279 (div binary64 (add binary64 p f140) half))
+bin-below p = omega (arith, floor-le lastBin (div binary64 (add binary64 p depth) half))

@@ -1,6 +1,6 @@
--- Calls on the stores of a sound bank and a sound gate: they stay sound, a list of calls is its accepted bank updates on the bank and its
--- accepted gate updates on the gate, and what is refused hangs on the bank's n and phase, the gate's n and the arguments. What is said of
--- the bank alone asks nothing of the gate. Assumes nothing.
+-- Calls on the stores of a sound bank and a sound gate: they stay sound, a list of calls is its accepted bank updates on the bank and, but for
+-- the pairs of R-3, its accepted gate updates on the gate, and what is refused hangs on the bank's n and phase, the gate's n and the arguments.
+-- What is said of the bank alone asks nothing of the gate. Assumes nothing.
 use mathlib.Core.Path.{_≡_, refl, sym, ap, ap₂, _∙_, subst}
 use mathlib.Core.List.{List, [], _∷_, _++_, map}
 use mathlib.Core.Bool.{_&&_, _||_}
@@ -10,21 +10,25 @@ use lib.ListN.{length}
 use lib.Dec.{eqb}
 use lib.Ieee.{Float}
 use Rattle.laws.specs.Tests.{differ, first}
+use Rattle.model.specs.Layout.{decimationHops}
 use Rattle.model.specs.Bank.{FloorBank, Hop, bankStep}
 use Rattle.model.specs.Stores.{bankOf}
 use Rattle.model.specs.Refusals.{bankRefusal, garbled, updateRefusal}
 use Rattle.model.specs.Calls.{leaves, bankUpdate}
-use Rattle.model.specs.Gate.{Gate, gateStep, riseBytes}
-use Rattle.model.specs.GateStores.{gateOf}
+use Rattle.model.specs.Gate.{Gate, gateStep, updateStep, holdStep, riseBytes}
+use Rattle.model.specs.GateStores.{gateU, gateF, gateOf}
 use Rattle.model.specs.GateCalls.{GateHop, gateRefusal, orElse, pairRefusal, gateUpdateRefusal, holdRefusal, gateLeaves, marksOf, gateUpdate, gateHold}
 use Rattle.model.specs.GoodBank.{Good}
 use Rattle.model.proofs.GoodBanks.{bank-back, passes}
 use Rattle.model.proofs.FreshBanks.{good-step}
 use Rattle.model.specs.GoodGate.{GoodGate}
-use Rattle.model.proofs.GoodGates.{gate-back, gate-passes}
-use Rattle.model.proofs.FreshGates.{good-gate-step}
+use Rattle.model.proofs.GateStores.{gate-forth-u}
+use Rattle.model.proofs.GoodGates.{gate-back, gate-passes, gate-ready, sizes}
+use Rattle.model.proofs.FreshGates.{bare, good-update, good-hold}
+use Rattle.model.proofs.Pairs.{true-update, true-hold, bare-update, bare-hold}
 use Rattle.model.specs.Demand3.{Call, Arguments, bank, gate, hold, Stores, step, answer, left, risesOf, arguments, leftBy, answers, bankHop, gateHop, bankHops, gateHops, bankIn}
 use Rattle.model.specs.Sets.{gateIn, Sound}
+use Rattle.model.specs.Remembered.{PairsTrue}
 use Rattle.model.proofs.SettledFloors.{runBank, n-run, phase-run}
 use Rattle.model.proofs.Rises.{runGate, make-run}
 
@@ -32,9 +36,30 @@ good-run : (hs : List Hop) (b : FloorBank) → Good b → Good (runBank b hs)
 good-run [] b g = g
 good-run (h ∷ hs) b g = good-run hs (bankStep b h) (good-step b h g)
 
-good-gate-run : (hs : List GateHop) (g : Gate) → GoodGate g → GoodGate (runGate g hs)
-good-gate-run [] g q = q
-good-gate-run (h ∷ hs) g q = good-gate-run hs (gateStep g (h .db) (h .power)) (good-gate-step g (h .db) (h .power) q)
+-- the gate after a call, by its answer
+abbrev pub gateAfter : ℕ → Gate → FloorBank → Arguments → Gate
+gateAfter zero g b (bank h) = g
+gateAfter zero g b (gate h rise drop) = updateStep g b (h .db) (h .power)
+gateAfter zero g b (hold rise drop) = holdStep g b
+gateAfter (suc r) g b c = g
+
+good-after : (r : ℕ) (g : Gate) (b : FloorBank) (c : Arguments) → GoodGate g → GoodGate (gateAfter r g b c)
+good-after zero g b (bank h) q = q
+good-after zero g b (gate h rise drop) q = good-update g b (h .db) (h .power) q
+good-after zero g b (hold rise drop) q = good-hold g b q
+good-after (suc r) g b c q = q
+
+pub true-after : (r : ℕ) (g : Gate) (b : FloorBank) (c : Arguments) → PairsTrue g → PairsTrue (gateAfter r g b c)
+true-after zero g b (bank h) q = q
+true-after zero g b (gate h rise drop) q = true-update g b (h .db) (h .power) q
+true-after zero g b (hold rise drop) q = true-hold g b q
+true-after (suc r) g b c q = q
+
+pub bare-after : (r : ℕ) (g : Gate) (b : FloorBank) (c : Arguments) → bare (gateAfter r g b c) ≡ runGate (bare g) (gateHop r c)
+bare-after zero g b (bank h) = refl
+bare-after zero g b (gate h rise drop) = bare-update g b (h .db) (h .power)
+bare-after zero g b (hold rise drop) = bare-hold g b
+bare-after (suc r) g b c = refl
 
 -- ---- what a call leaves
 
@@ -55,9 +80,9 @@ pub record Left (s : Stores) (c : Call) : Type 0 where
   pub bank-passes : bankRefusal (left s c .bu) (left s c .bf) ≡ 0
   pub bank-is : bankIn (left s c) ≡ runBank (bankIn s) (bankHop (answer s c) (arguments c))
   pub gate-passes : gateRefusal (left s c .gu) (left s c .gf) ≡ 0
-  pub gate-is : gateIn (left s c) ≡ runGate (gateIn s) (gateHop (answer s c) (arguments c))
+  pub gate-is : gateIn (left s c) ≡ gateAfter (answer s c) (gateIn s) (bankIn s) (arguments c)
 
--- whatever a call answers: no bank update on the bank, no gate update on the gate
+-- whatever a call answers: no bank update on the bank, nothing on the gate by a bank update
 no-bank : (r : ℕ) (h : GateHop) (i j : ℕ) → bankHop r (gate h i j) ≡ []
 no-bank zero h i j = refl
 no-bank (suc r) h i j = refl
@@ -66,13 +91,9 @@ no-bank-hold : (r i j : ℕ) → bankHop r (hold i j) ≡ []
 no-bank-hold zero i j = refl
 no-bank-hold (suc r) i j = refl
 
-no-gate : (r : ℕ) (h : Hop) → gateHop r (bank h) ≡ []
-no-gate zero h = refl
-no-gate (suc r) h = refl
-
-no-gate-hold : (r i j : ℕ) → gateHop r (hold i j) ≡ []
-no-gate-hold zero i j = refl
-no-gate-hold (suc r) i j = refl
+no-gate : (r : ℕ) (g : Gate) (b : FloorBank) (h : Hop) → gateAfter r g b (bank h) ≡ g
+no-gate zero g b h = refl
+no-gate (suc r) g b h = refl
 
 leaves-bank : (u : List ℕ) (f : List Float) (h : Hop) → bankRefusal u f ≡ 0 → Good (bankOf u f) → (r : ℕ)
     → (bankRefusal (leaves r (bankStep (bankOf u f) h) u f .1) (leaves r (bankStep (bankOf u f) h) u f .2) ≡ 0)
@@ -81,14 +102,31 @@ leaves-bank : (u : List ℕ) (f : List Float) (h : Hop) → bankRefusal u f ≡ 
 leaves-bank u f h p g zero = let q = good-step (bankOf u f) h g in (passes (bankStep (bankOf u f) h) q, bank-back (bankStep (bankOf u f) h) q)
 leaves-bank u f h p g (suc r) = (p, refl)
 
-leaves-gate : (u : List ℕ) (f : List Float) (h : GateHop) (i j : ℕ) → gateRefusal u f ≡ 0 → GoodGate (gateOf u f) → (r : ℕ)
-    → (gateRefusal (gateLeaves r (gateStep (gateOf u f) (h .db) (h .power)) u f .1) (gateLeaves r (gateStep (gateOf u f) (h .db) (h .power)) u f .2) ≡ 0)
-    × (gateOf (gateLeaves r (gateStep (gateOf u f) (h .db) (h .power)) u f .1) (gateLeaves r (gateStep (gateOf u f) (h .db) (h .power)) u f .2)
-    ≡ runGate (gateOf u f) (gateHop (gateLeaves r (gateStep (gateOf u f) (h .db) (h .power)) u f .0) (gate h i j)))
-leaves-gate u f h i j p g zero =
-    let q = good-gate-step (gateOf u f) (h .db) (h .power) g in
-    (gate-passes (gateStep (gateOf u f) (h .db) (h .power)) q, gate-back (gateStep (gateOf u f) (h .db) (h .power)) q)
-leaves-gate u f h i j p g (suc r) = (p, refl)
+leaves-gate : (u : List ℕ) (f : List Float) (b : FloorBank) (h : GateHop) (i j : ℕ) → gateRefusal u f ≡ 0 → GoodGate (gateOf u f) → (r : ℕ)
+    → (gateRefusal (gateLeaves r (updateStep (gateOf u f) b (h .db) (h .power)) u f .1) (gateLeaves r (updateStep (gateOf u f) b (h .db) (h .power)) u f .2) ≡ 0)
+    × (gateOf (gateLeaves r (updateStep (gateOf u f) b (h .db) (h .power)) u f .1) (gateLeaves r (updateStep (gateOf u f) b (h .db) (h .power)) u f .2)
+    ≡ gateAfter (gateLeaves r (updateStep (gateOf u f) b (h .db) (h .power)) u f .0) (gateOf u f) b (gate h i j))
+leaves-gate u f b h i j p g zero =
+    let q = good-update (gateOf u f) b (h .db) (h .power) g in
+    (gate-passes (updateStep (gateOf u f) b (h .db) (h .power)) q, gate-back (updateStep (gateOf u f) b (h .db) (h .power)) q)
+leaves-gate u f b h i j p g (suc r) = (p, refl)
+
+-- a hold leaves the u16 store, which is that of the gate that it leaves
+held-u : (u : List ℕ) (f : List Float) (b : FloorBank) → gateRefusal u f ≡ 0 → u ≡ gateU (holdStep (gateOf u f) b)
+held-u u f b p =
+    let r = gate-ready u f p in
+    sym (gate-forth-u u f (r .long) (sizes u f r .few) (r .unused)) ∙ sym (ap gateU (bare-hold (gateOf u f) b))
+
+leaves-hold : (u : List ℕ) (f : List Float) (b : FloorBank) (i j : ℕ) → gateRefusal u f ≡ 0 → GoodGate (gateOf u f) → (r : ℕ)
+    → (gateRefusal u (gateLeaves r (holdStep (gateOf u f) b) u f .2) ≡ 0)
+    × (gateOf u (gateLeaves r (holdStep (gateOf u f) b) u f .2) ≡ gateAfter r (gateOf u f) b (hold i j))
+leaves-hold u f b i j p g zero =
+    let H = holdStep (gateOf u f) b in
+    let q = good-hold (gateOf u f) b g in (
+      ap (λ (v : List ℕ). gateRefusal v (gateF H)) (held-u u f b p) ∙ gate-passes H q,
+      ap (λ (v : List ℕ). gateOf v (gateF H)) (held-u u f b p) ∙ gate-back H q,
+    )
+leaves-hold u f b i j p g (suc r) = (p, refl)
 
 pub left-bank : (s : Stores) → SoundBank s → (c : Call) → LeftBank s c
 unfolding step bankUpdate
@@ -101,27 +139,29 @@ left-bank s v (hold rise drop) =
     record { bank-passes = v .bank-passes; bank-is = sym (ap (runBank (bankIn s)) (no-bank-hold (answer s (hold rise drop)) _ _)) }
 
 pub left-is : (s : Stores) → Sound s → (c : Call) → Left s c
-unfolding step gateUpdate
+unfolding step gateUpdate gateHold
 left-is s v (bank h) =
     let b = left-bank s (sound-bank s v) (bank h) in
     record {
       bank-passes = b .bank-passes;
       bank-is = b .bank-is;
       gate-passes = v .gate-passes;
-      gate-is = sym (ap (runGate (gateIn s)) (no-gate (answer s (bank h)) h));
+      gate-is = sym (no-gate (answer s (bank h)) (gateIn s) (bankIn s) h);
     }
 left-is s v (gate h rise drop) =
     let b = left-bank s (sound-bank s v) (gate h rise drop) in
-    let g = leaves-gate (s .gu) (s .gf) h (length rise) (length drop) (v .gate-passes) (v .gate-good)
+    let g = leaves-gate (s .gu) (s .gf) (bankIn s) h (length rise) (length drop) (v .gate-passes) (v .gate-good)
     (gateUpdateRefusal (s .bu) (s .bf) (s .gu) (s .gf) (length (h .db)) (length (h .power)) (length rise) (length drop)) in
     record { bank-passes = b .bank-passes; bank-is = b .bank-is; gate-passes = g .0; gate-is = g .1 }
 left-is s v (hold rise drop) =
     let b = left-bank s (sound-bank s v) (hold rise drop) in
+    let g = leaves-hold (s .gu) (s .gf) (bankIn s) (length rise) (length drop) (v .gate-passes) (v .gate-good)
+    (holdRefusal (s .bu) (s .bf) (s .gu) (s .gf) (length rise) (length drop)) in
     record {
       bank-passes = b .bank-passes;
       bank-is = b .bank-is;
-      gate-passes = v .gate-passes;
-      gate-is = sym (ap (runGate (gateIn s)) (no-gate-hold (answer s (hold rise drop)) _ _));
+      gate-passes = g .0;
+      gate-is = g .1;
     }
 
 pub bank-left : (s : Stores) (c : Call) → SoundBank s → SoundBank (left s c)
@@ -140,14 +180,24 @@ sound-left s c v =
       bank-passes = b .bank-passes;
       bank-good = b .bank-good;
       gate-passes = l .gate-passes;
-      gate-good = subst GoodGate (sym (l .gate-is)) (good-gate-run (gateHop (answer s c) (arguments c)) (gateIn s) (v .gate-good));
+      gate-good = subst GoodGate (sym (l .gate-is)) (good-after (answer s c) (gateIn s) (bankIn s) (arguments c) (v .gate-good));
     }
+
+pub true-left : (s : Stores) (c : Call) → Sound s → PairsTrue (gateIn s) → PairsTrue (gateIn (left s c))
+true-left s c v p = subst PairsTrue (sym (left-is s v c .gate-is)) (true-after (answer s c) (gateIn s) (bankIn s) (arguments c) p)
+
+pub bare-left : (s : Stores) (c : Call) → Sound s → bare (gateIn (left s c)) ≡ runGate (bare (gateIn s)) (gateHop (answer s c) (arguments c))
+bare-left s c v = ap bare (left-is s v c .gate-is) ∙ bare-after (answer s c) (gateIn s) (bankIn s) (arguments c)
 
 -- ---- lists of calls
 
 pub sound-run : (cs : List Call) (s : Stores) → Sound s → Sound (leftBy s cs)
 sound-run [] s v = v
 sound-run (c ∷ cs) s v = sound-run cs (left s c) (sound-left s c v)
+
+pub true-run : (cs : List Call) (s : Stores) → Sound s → PairsTrue (gateIn s) → PairsTrue (gateIn (leftBy s cs))
+true-run [] s v p = p
+true-run (c ∷ cs) s v p = true-run cs (left s c) (sound-left s c v) (true-left s c v p)
 
 bank-append : (xs ys : List Hop) (b : FloorBank) → runBank b (xs ++ ys) ≡ runBank (runBank b xs) ys
 bank-append [] ys b = refl
@@ -164,12 +214,12 @@ bank-run (c ∷ cs) s v =
     ∙ ap (λ (b : FloorBank). runBank b (bankHops (left s c) cs)) (left-bank s v c .bank-is)
     ∙ sym (bank-append (bankHop (answer s c) (arguments c)) (bankHops (left s c) cs) (bankIn s))
 
-pub gate-run : (cs : List Call) (s : Stores) → Sound s → gateIn (leftBy s cs) ≡ runGate (gateIn s) (gateHops s cs)
+pub gate-run : (cs : List Call) (s : Stores) → Sound s → bare (gateIn (leftBy s cs)) ≡ runGate (bare (gateIn s)) (gateHops s cs)
 gate-run [] s v = refl
 gate-run (c ∷ cs) s v =
     gate-run cs (left s c) (sound-left s c v)
-    ∙ ap (λ (g : Gate). runGate g (gateHops (left s c) cs)) (left-is s v c .gate-is)
-    ∙ sym (gate-append (gateHop (answer s c) (arguments c)) (gateHops (left s c) cs) (gateIn s))
+    ∙ ap (λ (g : Gate). runGate g (gateHops (left s c) cs)) (bare-left s c v)
+    ∙ sym (gate-append (gateHop (answer s c) (arguments c)) (gateHops (left s c) cs) (bare (gateIn s)))
 
 -- ---- what is refused
 
@@ -204,16 +254,16 @@ answer-is s v (hold rise drop) = rw (v .bank-passes, v .gate-passes)
 
 unfoldable pub judged : Stores → Arguments → List ℕ
 judged s (bank h) = []
-judged s (gate h rise drop) = riseBytes (gateStep (gateIn s) (h .db) (h .power)) (bankIn s)
-judged s (hold rise drop) = riseBytes (gateIn s) (bankIn s)
+judged s (gate h rise drop) = riseBytes (updateStep (gateIn s) (bankIn s) (h .db) (h .power)) (bankIn s)
+judged s (hold rise drop) = riseBytes (holdStep (gateIn s) (bankIn s)) (bankIn s)
 
 pub rises-are : (s : Stores) (c : Call) → answer s c ≡ 0 → risesOf s c ≡ judged s (arguments c)
 unfolding risesOf judged step gateUpdate gateHold
 rises-are s (bank h) e = refl
 rises-are s (gate h rise drop) e =
-    ap (λ (r : ℕ). marksOf r (gateStep (gateIn s) (h .db) (h .power)) (bankIn s) rise drop .0)
+    ap (λ (r : ℕ). marksOf r (updateStep (gateIn s) (bankIn s) (h .db) (h .power)) (bankIn s) rise drop .0)
     (sym (gate-answer (gateUpdateRefusal (s .bu) (s .bf) (s .gu) (s .gf) (length (h .db)) (length (h .power)) (length rise) (length drop)) _ (s .gu) (s .gf)) ∙ e)
-rises-are s (hold rise drop) e = ap (λ (r : ℕ). marksOf r (gateIn s) (bankIn s) rise drop .0) e
+rises-are s (hold rise drop) e = ap (λ (r : ℕ). marksOf r (holdStep (gateIn s) (bankIn s)) (bankIn s) rise drop .0) e
 
 -- ---- two sets
 
@@ -234,7 +284,7 @@ bank-key : (b d : FloorBank) (hs : List Hop) → Good b → Good d → b .n ≡ 
     → (runBank b hs .n ≡ runBank d hs .n) × (runBank b hs .phase ≡ runBank d hs .phase)
 bank-key b d hs g q n p = (
   n-run hs b ∙ n ∙ sym (n-run hs d),
-  phase-run hs b (b .phase) (omega (arith, g .phase)) ∙ ap (λ (i : ℕ). (i + length hs) % 15) p ∙ sym (phase-run hs d (d .phase) (omega (arith, q .phase))),
+  phase-run hs b (b .phase) (omega (arith, g .phase)) ∙ ap (λ (i : ℕ). (i + length hs) % decimationHops) p ∙ sym (phase-run hs d (d .phase) (omega (arith, q .phase))),
 )
 
 twins-left : (s t : Stores) → Twins s t → (c d : Call) → arguments c ≡ arguments d → Twins (left s c) (left t d)
@@ -245,11 +295,11 @@ twins-left s t w c d e =
       n = rw (l .bank-is, r .bank-is, ← hops) (k .0);
       phase = rw (l .bank-is, r .bank-is, ← hops) (k .1);
       gate-n =
-          ap (λ (g : Gate). g .n) (l .gate-is)
-          ∙ make-run (gateHop (answer s c) (arguments c)) (gateIn s) .n
+          ap (λ (g : Gate). g .n) (bare-left s c (w .one))
+          ∙ make-run (gateHop (answer s c) (arguments c)) (bare (gateIn s)) .n
           ∙ w .gate-n
-          ∙ sym (make-run (gateHop (answer t d) (arguments d)) (gateIn t) .n)
-          ∙ sym (ap (λ (g : Gate). g .n) (r .gate-is));
+          ∙ sym (make-run (gateHop (answer t d) (arguments d)) (bare (gateIn t)) .n)
+          ∙ sym (ap (λ (g : Gate). g .n) (bare-left t d (w .other)));
     }
   where
     l : Left s c

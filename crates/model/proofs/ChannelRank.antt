@@ -10,7 +10,7 @@ use borrow.Author.Tests.{ltb-true, ltb-false, eq-eqb, ne-eqb}
 use Rattle.laws.specs.Lists.{occ}
 use Rattle.laws.proofs.Lists.{getD-part}
 use Rattle.laws.proofs.Tests.{by-test}
-use Rattle.model.specs.Numbers.{histMin}
+use Rattle.model.specs.Layout.{histMin, bins, ringLen, atCounts}
 use Rattle.model.specs.Ring.{ChannelFloor, entries, centreOf, smallest, without, quartileOf, quartile, rawFloor, usableFloor, skipOf}
 use Rattle.model.specs.Stores.{chanOf}
 use Rattle.model.specs.Sound.{Sound}
@@ -29,13 +29,13 @@ under-top {R} {K} c s =
     ∙ length-entries c s
 
 -- a count as it stands in the store
-pub count-at : (l : List ℕ) (b : ℕ) → Sound 250 280 (chanOf l) → b < 280 → getD l (250 + b) 0 ≡ occ b (entries (chanOf l))
-count-at l b s h = sym (getD-part 250 280 l b 0 h) ∙ s .recount b h
+pub count-at : (l : List ℕ) (b : ℕ) → Sound ringLen bins (chanOf l) → b < bins → getD l (atCounts + b) 0 ≡ occ b (entries (chanOf l))
+count-at l b s h = sym (getD-part atCounts bins l b 0 h) ∙ s .recount b h
 
 -- ---- the scan of the counts, before bin b: so many entries were passed, fewer than the rank
 
 pub record Scan (l : List ℕ) (rank passed b : ℕ) : Type 0 where
-  pub most : b ≤ 280
+  pub most : b ≤ bins
   pub sum : passed ≡ under b l
   pub short : passed < rank
 
@@ -43,14 +43,14 @@ pub scan-begins : (l : List ℕ) (rank : ℕ) → 0 < rank → Scan l rank 0 0
 scan-begins l rank h = record { most = omega arith; sum = sym (under-zero l); short = h }
 
 -- the scan ends inside: after the last bin all entries are passed, and those are as many as the highest rank
-pub scan-inside : {R : ℕ} {c : ChannelFloor} {rank passed b : ℕ} → Sound R 280 c → Scan (entries c) rank passed b → rank ≤ c .filled → b < 280
+pub scan-inside : {R : ℕ} {c : ChannelFloor} {rank passed b : ℕ} → Sound R bins c → Scan (entries c) rank passed b → rank ≤ c .filled → b < bins
 scan-inside {c = c} {b = b} k s h =
-    by-test (ltb b 280) (λ t. ltb-true b 280 t)
+    by-test (ltb b bins) (λ t. ltb-true b bins t)
     (λ t.
-    let e : b ≡ 280 = omega (arith, s .most, ltb-false b 280 t) in
+    let e : b ≡ bins = omega (arith, s .most, ltb-false b bins t) in
     absurd (omega (arith, s .sum, s .short, ap (λ (x : ℕ). under x (entries c)) e, under-top c k)))
 
-pub scan-turns : {l : List ℕ} {rank passed b : ℕ} (x : ℕ) → Scan l rank passed b → x ≡ occ b l → b < 280 → passed + x < rank → Scan l rank (passed + x) (b + 1)
+pub scan-turns : {l : List ℕ} {rank passed b : ℕ} (x : ℕ) → Scan l rank passed b → x ≡ occ b l → b < bins → passed + x < rank → Scan l rank (passed + x) (b + 1)
 scan-turns {l} {b = b} x s e h k = record { most = omega arith; sum = omega (arith, s .sum, under-more b l); short = k }
 
 pub scan-finds : {l : List ℕ} {rank passed b : ℕ} (x : ℕ) → Scan l rank passed b → x ≡ occ b l → rank ≤ passed + x → b ≡ smallest rank l

@@ -11,7 +11,8 @@ use borrow.Author.Tests.{ltb-true}
 use Rattle.laws.specs.Lists.{one}
 use Rattle.laws.proofs.Tests.{by-test}
 use Rattle.laws.proofs.Tabs.{length-tab, getD-tab}
-use Rattle.model.specs.Numbers.{f0, histMin, freshPower}
+use Rattle.model.specs.Numbers.{f0}
+use Rattle.model.specs.Layout.{histMin, bins, freshPower, ringLen, blockChannels}
 use Rattle.model.specs.Ring.{binOf}
 use Rattle.model.specs.Bank.{FloorBank, Hop, blocks, block, median, channel, freshChannel, freshBank, takesSeed, seedsAfter, sumsAfter, smoothAfter, channelAfter, chansAfter, rawFloors, usableFloors, blockFloors, riseFloors, fastStep, slowStep, stepAt, bankStep}
 use Rattle.model.specs.Sound.{Sound}
@@ -77,8 +78,8 @@ good-slow b h g =
       seeds-small = seeds-slow b (h .db) g;
       sound =
           λ k l.
-          subst (Sound 250 280) (sym (channel-slow b h k l))
-          (sound-push (eqb 0 (getD (seedsAfter b (h .db)) (k / 32) 0)) (channel b k) (binOf (getD (h .db) k f0)) (g .sound k l) (bin-below (getD (h .db) k f0)));
+          subst (Sound ringLen bins) (sym (channel-slow b h k l))
+          (sound-push (eqb 0 (getD (seedsAfter b (h .db)) (k / blockChannels) 0)) (channel b k) (binOf (getD (h .db) k f0)) (g .sound k l) (bin-below (getD (h .db) k f0)));
     }
 
 good-fast : (b : FloorBank) (h : Hop) → Good b → Good (fastStep b h)

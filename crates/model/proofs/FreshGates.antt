@@ -8,15 +8,16 @@ use native.Mathlib.Nat.{mod-lt, mod-eq-of-lt}
 use native.Mathlib.Omega.{arith}
 use lib.Dec.{eqb}
 use lib.ListN.{length, getD, set, replicate, length-map, length-set, length-replicate, getD-replicate}
-use lib.Ieee.{Float}
+use lib.Ieee.{Float, nan}
 use borrow.Author.Tests.{eqb-false}
 use Rattle.laws.specs.Lists.{tab}
 use Rattle.laws.specs.Tests.{within}
 use Rattle.laws.proofs.Tests.{and-l, and-r, or-l, or-r, within-of}
 use Rattle.laws.proofs.Tabs.{length-tab, getD-tab}
 use Rattle.model.specs.Numbers.{f0}
+use Rattle.model.specs.Bank.{FloorBank}
 use Rattle.model.specs.Windows.{PowerLooks, ringOf, pushLook, advanceLook, rebaseLook, settleAt, stepLook, freshLook}
-use Rattle.model.specs.Gate.{Gate, Settings, among, distinct, freshGate, gateStep, sampleOf, dbAfter}
+use Rattle.model.specs.Gate.{Gate, Settings, among, distinct, freshGate, gateStep, refresh, updateStep, holdAt, holdStep, sampleOf, dbAfter}
 use Rattle.model.specs.GateCalls.{allWithin, goodLengths}
 use Rattle.model.specs.GoodGate.{GoodLook, GoodGate, lookAt}
 
@@ -99,13 +100,22 @@ getD-map f (x ∷ l) (suc j) d e h = getD-map f l j d e (omega arith)
 -- ---- the parts of a gate update: the smoothed dB, the windows, started
 
 abbrev pub withSmooth : Gate → List Float → Gate
-withSmooth g x = record { n = g .n; started = g .started; on = g .on; off = g .off; early = g .early; looks = g .looks; smooth = x }
+withSmooth g x = record { n = g .n; started = g .started; on = g .on; off = g .off; early = g .early; looks = g .looks; smooth = x; used = g .used; threshold = g .threshold }
 
 abbrev pub withLooks : Gate → List PowerLooks → Gate
-withLooks g ls = record { n = g .n; started = g .started; on = g .on; off = g .off; early = g .early; looks = ls; smooth = g .smooth }
+withLooks g ls = record { n = g .n; started = g .started; on = g .on; off = g .off; early = g .early; looks = ls; smooth = g .smooth; used = g .used; threshold = g .threshold }
 
 abbrev pub withStarted : Gate → ℕ → Gate
-withStarted g s = record { n = g .n; started = s; on = g .on; off = g .off; early = g .early; looks = g .looks; smooth = g .smooth }
+withStarted g s = record { n = g .n; started = s; on = g .on; off = g .off; early = g .early; looks = g .looks; smooth = g .smooth; used = g .used; threshold = g .threshold }
+
+-- R-3: the pairs
+abbrev pub withPairs : Gate → List Float → List Float → Gate
+withPairs g x y =
+    record { n = g .n; started = g .started; on = g .on; off = g .off; early = g .early; looks = g .looks; smooth = g .smooth; used = x; threshold = y }
+
+-- the gate but for its pairs
+abbrev pub bare : Gate → Gate
+bare g = withPairs g [] []
 
 abbrev pub smoothAfter : Gate → List Float → List Float
 smoothAfter g db = tab (g .n) (λ k. dbAfter (g .started) (getD (g .smooth) k f0) (getD db k f0))
@@ -127,6 +137,8 @@ good-smooth g x s e =
       some = s .some;
       few = s .few;
       smooth-long = e;
+      used-long = s .used-long;
+      threshold-long = s .threshold-long;
       look = s .look;
       distinct = s .distinct;
     }
@@ -143,6 +155,8 @@ good-started g t s h =
       some = s .some;
       few = s .few;
       smooth-long = s .smooth-long;
+      used-long = s .used-long;
+      threshold-long = s .threshold-long;
       look = s .look;
       distinct = s .distinct;
     }
@@ -161,6 +175,8 @@ good-looks g S s same good =
       some = omega (arith, s .some, count);
       few = omega (arith, s .few, count);
       smooth-long = s .smooth-long;
+      used-long = s .used-long;
+      threshold-long = s .threshold-long;
       look = λ j h. subst (GoodLook (g .n)) (sym (at j (omega (arith, count)))) (good (lookAt g j) (s .look j (omega (arith, count))));
       distinct =
           λ i j l h e.
@@ -176,6 +192,28 @@ good-looks g S s same good =
     m-at : (j : ℕ) → j < length (g .looks) → getD (map S (g .looks)) j (freshLook 0 0) .m ≡ lookAt g j .m
     m-at j h = ap (λ (l : PowerLooks). l .m) (at j h) ∙ same (lookAt g j)
 
+pub good-pairs : (g : Gate) (x y : List Float) → GoodGate g → length x ≡ g .n → length y ≡ g .n → GoodGate (withPairs g x y)
+good-pairs g x y s d e =
+    record {
+      low = s .low;
+      high = s .high;
+      started = s .started;
+      on = s .on;
+      off = s .off;
+      early = s .early;
+      some = s .some;
+      few = s .few;
+      smooth-long = s .smooth-long;
+      used-long = d;
+      threshold-long = e;
+      look = s .look;
+      distinct = s .distinct;
+    }
+
+pub good-refresh : (g : Gate) (b : FloorBank) → GoodGate g → GoodGate (refresh g b)
+unfolding refresh
+good-refresh g b s = good-pairs g _ _ s (length-tab (g .n) _) (length-tab (g .n) _)
+
 pub good-gate-step : (g : Gate) (db power : List Float) → GoodGate g → GoodGate (gateStep g db power)
 good-gate-step g db power s =
     let x = smoothAfter g db in
@@ -183,6 +221,18 @@ good-gate-step g db power s =
     let t = good-smooth g x s (length-tab (g .n) (λ k. dbAfter (g .started) (getD (g .smooth) k f0) (getD db k f0))) in
     let v = good-looks (withSmooth g x) S t (step-look-m (g .n) (sampleOf power)) (good-step-look (g .n) (sampleOf power)) in
     subst GoodGate (sym (step-parts g db power)) (good-started (withLooks (withSmooth g x) (map S (g .looks))) 1 v (omega arith))
+
+pub good-update : (g : Gate) (b : FloorBank) (db power : List Float) → GoodGate g → GoodGate (updateStep g b db power)
+unfolding updateStep
+good-update g b db power s = good-refresh (gateStep g db power) b (good-gate-step g db power s)
+
+good-hold-at : (t : ℕ) (g : Gate) (b : FloorBank) → GoodGate g → GoodGate (holdAt t g b)
+good-hold-at zero g b s = s
+good-hold-at (suc t) g b s = good-refresh g b s
+
+pub good-hold : (g : Gate) (b : FloorBank) → GoodGate g → GoodGate (holdStep g b)
+unfolding holdStep
+good-hold g b s = good-hold-at (g .started) g b s
 
 -- ---- a fresh gate
 
@@ -283,6 +333,8 @@ good-fresh-gate s low high on off early t =
       some = omega (arith, count, distinct-some (s .lengths) (many .0));
       few = omega (arith, count, distinct-few [] (s .lengths), many .1);
       smooth-long = length-replicate (s .n) f0;
+      used-long = length-replicate (s .n) nan;
+      threshold-long = length-replicate (s .n) f0;
       look =
           λ j h.
           let l : j < length D = omega (arith, count) in

@@ -1,11 +1,11 @@
 -- A gate in its two stores: stores of the right lengths are their gate's, and what the parts of an encoded gate read. Assumes nothing.
 use mathlib.Core.Path.{_≡_, refl, sym, ap, ap₂, _∙_}
-use mathlib.Core.List.{List, [], _∷_, _++_, map}
+use mathlib.Core.List.{List, [], _∷_, _++_, append-assoc, map}
 use Prim.Native.Nat.{ℕ, _+_, _-_, _*_, _<_, _≤_}
 use native.Mathlib.Omega.{arith}
 use native.Mathlib.Numerals.{add-one}
 use native.Mathlib.Nat.{add-zero}
-use lib.ListN.{length, getD, take, drop, replicate, length-drop, length-replicate, getD-replicate}
+use lib.ListN.{length, getD, take, drop, replicate, length-drop, take-append-drop, length-replicate, getD-replicate}
 use lib.Seq.{take-all, ext-getD, getD-drop}
 use lib.Ieee.{Float}
 use Rattle.laws.specs.Lists.{part, tab, joined}
@@ -14,7 +14,7 @@ use Rattle.laws.proofs.Tabs.{length-tab, tab-ext, map-tab}
 use Rattle.laws.proofs.Joined.{joined-parts, parts-meet}
 use Rattle.laws.proofs.Runs.{Meets, run-within, run-parts}
 use Rattle.model.specs.Windows.{PowerLooks}
-use Rattle.model.specs.GateStores.{triple, gateU, gateF, mAt, cursorAt, filledAt, lookF, lookSize, lookStart, lookOf, gateOf, gateFLen}
+use Rattle.model.specs.GateStores.{triple, gateU, gateF, mAt, cursorAt, filledAt, lookF, lookSize, lookStart, lookOf, pairStart, gateOf, gateFLen}
 use Rattle.model.proofs.WindowStores.{look-forth}
 
 -- ---- where the lengths stand
@@ -53,18 +53,27 @@ three a l h =
     first-three (drop a l) (omega (arith, length-drop a l))
     ∙ (λ i. (getD-drop a l 0 0 ∙ ap (λ (k : ℕ). getD l k 0) (add-zero a)) i ∷ getD-drop a l 1 0 i ∷ getD-drop a l 2 0 i ∷ [])
 
+-- the pairs: what stands behind the last length
+pub pairs-forth : (u : List ℕ) (f : List Float) → length f ≡ gateFLen u
+    → part (pairStart u) (getD u 0 0) f ++ part (pairStart u + getD u 0 0) (getD u 0 0) f ≡ drop (pairStart u) f
+pairs-forth u f e =
+    parts-meet (pairStart u) (getD u 0 0) (pairStart u + getD u 0 0) (getD u 0 0) f refl
+    ∙ take-all (getD u 0 0 + getD u 0 0) (drop (pairStart u) f) (omega (arith, length-drop (pairStart u) f))
+
 pub gate-forth-f : (u : List ℕ) (f : List Float) → length f ≡ gateFLen u → gateF (gateOf u f) ≡ f
 unfolding gateOf
 gate-forth-f u f e =
-    ap (λ (r : List Float). take (getD u 0 0) f ++ r)
+    ap₂ (λ (r s : List Float). take (getD u 0 0) f ++ (r ++ s))
     (ap joined
     (map-tab lookF C (lookIn u f)
     ∙ tab-ext C (λ j. lookF (lookIn u f j)) (λ j. part (startAt u j) (sizeAt u j) f)
     (λ j h.
     look-forth (getD u 0 0) (mAt u j) (cursorAt u j) (filledAt u j) (part (startAt u j) (sizeAt u j) f)
     (length-part (startAt u j) (sizeAt u j) f (part-fits u f j e h)))))
-    ∙ run-parts (startAt u) (sizeAt u) C f (starts-meet u C)
-    ∙ take-all (startAt u C) f (omega arith)
+    (pairs-forth u f e)
+    ∙ sym (append-assoc (take (getD u 0 0) f) (joined (tab C (λ j. part (startAt u j) (sizeAt u j) f))) (drop (pairStart u) f))
+    ∙ ap (λ (r : List Float). r ++ drop (pairStart u) f) (run-parts (startAt u) (sizeAt u) C f (starts-meet u C))
+    ∙ take-append-drop (startAt u C) f
   where
     C : ℕ
     C = getD u 5 0

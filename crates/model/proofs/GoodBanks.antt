@@ -13,6 +13,7 @@ use Rattle.laws.specs.Tests.{allBelow, within, differ}
 use Rattle.laws.proofs.Lists.{length-part, row}
 use Rattle.laws.proofs.Tabs.{length-tab, getD-tab, tab-ext, tab-getD, map-tab, length-joined}
 use Rattle.laws.proofs.Tests.{and-l, and-r, or-l, or-r, all-at, all-true, passed, same-of, within-of}
+use Rattle.model.specs.Layout.{bins, ringLen, atCounts, channelLen, decimationHops}
 use Rattle.model.specs.Ring.{ChannelFloor}
 use Rattle.model.specs.Bank.{FloorBank, blocks, channel, freshChannel}
 use Rattle.model.specs.Stores.{chanU, chanOf, bankU, bankF, bankOf, base, chanPart, bankLen, bankFLen, soundChannel, soundBank}
@@ -31,7 +32,7 @@ written b g =
     ap (λ (cs : List ChannelFloor). joined (map chanU cs)) (sym (tab-getD (b .chans) freshChannel (b .n) (g .chans-long)))
     ∙ ap joined (map-tab chanU (b .n) (channel b))
 
-channel-long : (b : FloorBank) → Good b → (k : ℕ) → k < b .n → length (chanU (channel b k)) ≡ 533
+channel-long : (b : FloorBank) → Good b → (k : ℕ) → k < b .n → length (chanU (channel b k)) ≡ channelLen
 channel-long b g k h = length-chanU (channel b k) (g .sound k h .ring-length) (g .sound k h .counts-length)
 
 pub lengths : (b : FloorBank) → Good b → Lengths (b .n) (blocks (b .n)) (b .raw) (b .usable) (b .smooth) (b .rise) (b .blockFloor) (b .seedSum)
@@ -76,7 +77,7 @@ bank-back b g =
 
 pub length-bankU : (b : FloorBank) → Good b → length (bankU b) ≡ bankLen (b .n)
 length-bankU b g =
-    let e : length (joined (map chanU (b .chans))) ≡ 533 * b .n = ap length (written b g) ∙ length-joined 533 (b .n) (λ k. chanU (channel b k)) (channel-long b g) in
+    let e : length (joined (map chanU (b .chans))) ≡ channelLen * b .n = ap length (written b g) ∙ length-joined channelLen (b .n) (λ k. chanU (channel b k)) (channel-long b g) in
     omega (arith, e, length-append (b .seeds) (joined (map chanU (b .chans))), g .seeds-long)
 
 pub length-bankF : (b : FloorBank) → Good b → length (bankF b) ≡ bankFLen (b .n)
@@ -92,7 +93,7 @@ pub sound-bank : (b : FloorBank) → Good b → soundBank b ≡ true
 unfolding soundBank
 sound-bank b g =
     rw (
-      lt-ltb (b .phase) 15 (g .phase),
+      lt-ltb (b .phase) decimationHops (g .phase),
       le-leb (b .started) 1 (g .started),
       all-true (λ i. leb (getD (b .seeds) i 0) 25) (blocks (b .n)) (λ i h. le-leb (getD (b .seeds) i 0) 25 (g .seeds-small i h)),
       all-true (λ k. soundChannel (channel b k)) (b .n) (λ k h. sound-passes (channel b k) (g .sound k h)),
@@ -117,7 +118,7 @@ unfolding bankOf
 channel-at u f k h = getD-tab (getD u 0 0) (λ k. chanOf (chanPart (getD u 0 0) u k)) k freshChannel h
 
 record Passed (b : FloorBank) : Type 0 where
-  phase : b .phase < 15
+  phase : b .phase < decimationHops
   started : b .started ≤ 1
   seeds : (i : ℕ) → i < blocks (b .n) → getD (b .seeds) i 0 ≤ 25
   chans : (k : ℕ) → k < b .n → soundChannel (channel b k) ≡ true
@@ -133,9 +134,9 @@ unfolding soundBank
 passed-bank b t =
     let seed : ℕ → Bool = λ i. leb (getD (b .seeds) i 0) 25 in
     let chan : ℕ → Bool = λ k. soundChannel (channel b k) in
-    let ts = all-four (ltb (b .phase) 15) (leb (b .started) 1) (allBelow (blocks (b .n)) seed) (allBelow (b .n) chan) t in
+    let ts = all-four (ltb (b .phase) decimationHops) (leb (b .started) 1) (allBelow (blocks (b .n)) seed) (allBelow (b .n) chan) t in
     record {
-      phase = ltb-true (b .phase) 15 (ts .0);
+      phase = ltb-true (b .phase) decimationHops (ts .0);
       started = leb-true (b .started) 1 (ts .1);
       seeds = λ i h. leb-true (getD (b .seeds) i 0) 25 (all-at seed (blocks (b .n)) i (ts .2) h);
       chans = λ k h. all-at chan (b .n) k (ts .3) h;
@@ -160,7 +161,7 @@ good-of u f low high long long-f t =
       blockFloor-long = length-part (4 * N) B f (omega arith);
       seedSum-long = length-part (4 * N + B) B f (omega arith);
       seeds-small = t .seeds;
-      sound = λ k h. subst (Sound 250 280) (sym (channel-at u f k h)) (one k h);
+      sound = λ k h. subst (Sound ringLen bins) (sym (channel-at u f k h)) (one k h);
     }
   where
     N : ℕ
@@ -169,10 +170,10 @@ good-of u f low high long long-f t =
     B : ℕ
     B = blocks (getD u 0 0)
 
-    one : (k : ℕ) → k < N → Sound 250 280 (chanOf (chanPart N u k))
+    one : (k : ℕ) → k < N → Sound ringLen bins (chanOf (chanPart N u k))
     one k h =
-        let w : length (chanPart N u k) ≡ 533 = length-part (base N + 533 * k) 533 u (omega (arith, row 533 k N h)) in
-        sound-facts (chanOf (chanPart N u k)) (length-part 0 250 (chanPart N u k) (omega (arith, w))) (length-part 250 280 (chanPart N u k) (omega (arith, w)))
+        let w : length (chanPart N u k) ≡ channelLen = length-part (base N + channelLen * k) channelLen u (omega (arith, row channelLen k N h)) in
+        sound-facts (chanOf (chanPart N u k)) (length-part 0 ringLen (chanPart N u k) (omega (arith, w))) (length-part atCounts bins (chanPart N u k) (omega (arith, w)))
         (sym (ap soundChannel (channel-at u f k h)) ∙ t .chans k h)
 
 -- stores that are not refused hold a sound bank

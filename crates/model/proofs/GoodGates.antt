@@ -1,7 +1,7 @@
 -- A sound gate: it comes back from its stores, they pass the test of the refusals, and what passes that test is sound. Assumes nothing.
 use mathlib.Core.Path.{_≡_, refl, sym, ap, subst, _∙_}
 use mathlib.Core.Bool.{Bool, true, not, cond, _&&_, _||_}
-use mathlib.Core.List.{List, [], _∷_, _++_, map}
+use mathlib.Core.List.{List, [], _∷_, _++_, append-assoc, map}
 use mathlib.Core.Logic.{_⊎_, inl, inr}
 use Prim.Native.Nat.{ℕ, _+_, _-_, _*_, _/_, _<_, _≤_}
 use native.Mathlib.Nat.{add-zero}
@@ -15,12 +15,12 @@ use Rattle.laws.specs.Lists.{part, tab, joined}
 use Rattle.laws.specs.Tests.{allBelow, within, differ}
 use Rattle.laws.proofs.Lists.{length-part, getD-part, part-mid, row}
 use Rattle.laws.proofs.Tabs.{length-tab, getD-tab, tab-ext, tab-getD, map-tab, length-joined}
-use Rattle.laws.proofs.Joined.{part-joined, part-skip}
-use Rattle.laws.proofs.Runs.{run-part, run-length, part-in-first}
+use Rattle.laws.proofs.Joined.{part-joined, part-skip, part-last}
+use Rattle.laws.proofs.Runs.{run-within, run-part, run-length, part-in-first}
 use Rattle.laws.proofs.Tests.{by-test, and-l, and-r, and-true, all-at, all-true, passed, same-of, within-of}
 use Rattle.model.specs.Windows.{PowerLooks, freshLook}
 use Rattle.model.specs.Gate.{Gate}
-use Rattle.model.specs.GateStores.{triple, gateU, gateF, mAt, cursorAt, filledAt, lookF, lookSize, lookOf, gateOf, gateFLen, soundLevel, soundTriple, newLength, soundTriples, soundHead, soundGate}
+use Rattle.model.specs.GateStores.{triple, gateU, gateF, mAt, cursorAt, filledAt, lookF, lookSize, lookOf, pairStart, gateOf, gateFLen, soundLevel, soundTriple, newLength, soundTriples, soundHead, soundGate}
 use Rattle.model.specs.GateCalls.{gateRefusal}
 use Rattle.model.proofs.WindowStores.{Shaped, look-long, look-back}
 use Rattle.model.specs.GoodGate.{GoodLook, GoodGate, GateReady, lookAt}
@@ -55,6 +55,14 @@ looks-of u f = refl
 pub smooth-of : (u : List ℕ) (f : List Float) → gateOf u f .smooth ≡ part 0 (getD u 0 0) f
 unfolding gateOf
 smooth-of u f = refl
+
+pub used-of : (u : List ℕ) (f : List Float) → gateOf u f .used ≡ part (pairStart u) (getD u 0 0) f
+unfolding gateOf
+used-of u f = refl
+
+pub threshold-of : (u : List ℕ) (f : List Float) → gateOf u f .threshold ≡ part (pairStart u + getD u 0 0) (getD u 0 0) f
+unfolding gateOf
+threshold-of u f = refl
 
 pub count-of : (u : List ℕ) (f : List Float) → length (gateOf u f .looks) ≡ getD u 5 0
 count-of u f = ap length (looks-of u f) ∙ length-tab (getD u 5 0) (lookIn u f)
@@ -141,12 +149,43 @@ module _ (g : Gate) (s : GoodGate g) where
   size-back : (j : ℕ) → j < length (g .looks) → length (lookF (lookAt g j)) ≡ sizeAt (gateU g) j
   size-back j h = length-lookF (g .n) (lookAt g j) (s .look j h) ∙ ap (lookSize (g .n)) (sym (m-back g j h))
 
+  -- the smoothed dB and the lengths, before the pairs
+  abbrev pub front : List Float
+  front = g .smooth ++ joined (map lookF (g .looks))
+
+  pub front-long : length front ≡ pairStart (gateU g)
+  front-long =
+      omega (
+        arith,
+        length-append (g .smooth) (joined (map lookF (g .looks))),
+        s .smooth-long,
+        ap length (written lookF g),
+        run-length (startAt (gateU g)) (sizeAt (gateU g)) (length (g .looks)) (λ i. lookF (lookAt g i)) (starts-meet (gateU g) (length (g .looks))) size-back,
+      )
+
+  pub fronted : gateF g ≡ front ++ (g .used ++ g .threshold)
+  fronted = sym (append-assoc (g .smooth) (joined (map lookF (g .looks))) (g .used ++ g .threshold))
+
   -- the floats of length j
   pub floats-back : (j : ℕ) → j < length (g .looks) → part (startAt (gateU g) j) (sizeAt (gateU g) j) (gateF g) ≡ lookF (lookAt g j)
   floats-back j h =
-      ap (λ (r : List Float). part (startAt (gateU g) j) (sizeAt (gateU g) j) (g .smooth ++ r)) (written lookF g)
+      ap (part (startAt (gateU g) j) (sizeAt (gateU g) j)) fronted
+      ∙ part-in-first front (g .used ++ g .threshold) (startAt (gateU g) j) (sizeAt (gateU g) j)
+      (omega (arith, front-long, run-within (startAt (gateU g)) (sizeAt (gateU g)) (length (g .looks)) j (starts-meet (gateU g) (length (g .looks))) h))
+      ∙ ap (λ (r : List Float). part (startAt (gateU g) j) (sizeAt (gateU g) j) (g .smooth ++ r)) (written lookF g)
       ∙ run-part (startAt (gateU g)) (sizeAt (gateU g)) (length (g .looks)) j (g .smooth) (λ i. lookF (lookAt g i))
       (starts-meet (gateU g) (length (g .looks))) size-back (s .smooth-long) h
+
+  -- R-3: the pairs
+  used-back : part (pairStart (gateU g)) (g .n) (gateF g) ≡ g .used
+  used-back =
+      ap (part (pairStart (gateU g)) (g .n)) fronted ∙ part-mid front (g .used) (g .threshold) (pairStart (gateU g)) (g .n) front-long (s .used-long)
+
+  threshold-back : part (pairStart (gateU g) + g .n) (g .n) (gateF g) ≡ g .threshold
+  threshold-back =
+      ap (part (pairStart (gateU g) + g .n) (g .n)) fronted
+      ∙ part-skip front (g .used ++ g .threshold) (pairStart (gateU g)) (g .n) (pairStart (gateU g) + g .n) (g .n) front-long refl
+      ∙ part-last (g .used) (g .threshold) (g .n) (g .n) (s .used-long) (s .threshold-long)
 
   look-in-back : (j : ℕ) → j < length (g .looks) → lookIn (gateU g) (gateF g) j ≡ lookAt g j
   look-in-back j h =
@@ -169,7 +208,9 @@ module _ (g : Gate) (s : GoodGate g) where
         off = g .off;
         early = g .early;
         looks = looks-back i;
-        smooth = part-mid [] (g .smooth) (joined (map lookF (g .looks))) 0 (g .n) refl (s .smooth-long) i;
+        smooth = part-mid [] (g .smooth) (joined (map lookF (g .looks)) ++ (g .used ++ g .threshold)) 0 (g .n) refl (s .smooth-long) i;
+        used = used-back i;
+        threshold = threshold-back i;
       }
 
   pub length-gateU : length (gateU g) ≡ 30
@@ -186,10 +227,12 @@ module _ (g : Gate) (s : GoodGate g) where
   length-gateF =
       omega (
         arith,
-        length-append (g .smooth) (joined (map lookF (g .looks))),
-        s .smooth-long,
-        ap length (written lookF g),
-        run-length (startAt (gateU g)) (sizeAt (gateU g)) (length (g .looks)) (λ i. lookF (lookAt g i)) (starts-meet (gateU g) (length (g .looks))) size-back,
+        ap length fronted,
+        length-append front (g .used ++ g .threshold),
+        front-long,
+        length-append (g .used) (g .threshold),
+        s .used-long,
+        s .threshold-long,
       )
 
   unused-back : (i : ℕ) → 6 + 3 * length (g .looks) ≤ i → i < 30 → getD (gateU g) i 0 ≡ 0
@@ -343,8 +386,8 @@ pub record SoundU (u : List ℕ) : Type 0 where
   pub used : (j : ℕ) → j < getD u 5 0 → Used u j
   pub unused : (j : ℕ) → getD u 5 0 ≤ j → j < 8 → Unused u j
 
-used-of : (u : List ℕ) (j : ℕ) → j < getD u 5 0 → tripleTest u j ≡ true → Used u j
-used-of u j l h =
+used-triple : (u : List ℕ) (j : ℕ) → j < getD u 5 0 → tripleTest u j ≡ true → Used u j
+used-triple u j l h =
     let t : (soundTriple (mAt u j) (cursorAt u j) (filledAt u j) && newLength (mAt u) j) ≡ true = rw (lt-ltb j (getD u 5 0) l) at h in
     let new = and-r (soundTriple (mAt u j) (cursorAt u j) (filledAt u j)) (newLength (mAt u) j) t in
     record {
@@ -352,8 +395,8 @@ used-of u j l h =
       new = λ i k. eqb-false (mAt u i) (mAt u j) (not-true (eqb (mAt u i) (mAt u j)) (all-at (λ a. not (eqb (mAt u a) (mAt u j))) j i new k));
     }
 
-unused-of : (u : List ℕ) (j : ℕ) → getD u 5 0 ≤ j → tripleTest u j ≡ true → Unused u j
-unused-of u j l h =
+unused-triple : (u : List ℕ) (j : ℕ) → getD u 5 0 ≤ j → tripleTest u j ≡ true → Unused u j
+unused-triple u j l h =
     let t : (eqb (mAt u j) 0 && eqb (cursorAt u j) 0 && eqb (filledAt u j) 0) ≡ true = rw (le-ltb j (getD u 5 0) l) at h in
     let t₁ = and-l (eqb (mAt u j) 0 && eqb (cursorAt u j) 0) (eqb (filledAt u j) 0) t in
     record {
@@ -370,8 +413,8 @@ sound-facts u h =
     let each = and-r H (allBelow 8 (tripleTest u)) h in
     record {
       head = head;
-      used = λ j l. used-of u j l (all-at (tripleTest u) 8 j each (omega (arith, head .few)));
-      unused = λ j l k. unused-of u j l (all-at (tripleTest u) 8 j each k);
+      used = λ j l. used-triple u j l (all-at (tripleTest u) 8 j each (omega (arith, head .few)));
+      unused = λ j l k. unused-triple u j l (all-at (tripleTest u) 8 j each k);
     }
 
 -- a length of a sound store
@@ -416,6 +459,8 @@ module _ (u : List ℕ) (f : List Float) (long : length u ≡ 30) (long-f : leng
         some = rw (count-of u f) (s .head .some);
         few = rw (count-of u f) (s .head .few);
         smooth-long = ap length (smooth-of u f) ∙ length-part 0 (getD u 0 0) f (omega (arith, part-fits u f 0 long-f (s .head .some))) ∙ sym (n-of u f);
+        used-long = ap length (used-of u f) ∙ length-part (pairStart u) (getD u 0 0) f (omega arith) ∙ sym (n-of u f);
+        threshold-long = ap length (threshold-of u f) ∙ length-part (pairStart u + getD u 0 0) (getD u 0 0) f (omega arith) ∙ sym (n-of u f);
         look =
             λ j h.
             let l : j < getD u 5 0 = omega (arith, count-of u f) in

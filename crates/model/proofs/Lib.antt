@@ -1,4 +1,8 @@
 pub mod Bins
+pub mod Ceilings
+pub mod Eighths
+pub mod RungValues
+pub mod Upward
 pub mod Channels
 pub mod Queue
 pub mod Rings
@@ -15,6 +19,7 @@ pub mod WindowStores
 pub mod GateStores
 pub mod GoodGates
 pub mod FreshGates
+pub mod Pairs
 pub mod Quartiles
 pub mod SettledFloors
 pub mod Windows
@@ -23,6 +28,7 @@ pub mod Calls
 pub mod Made
 pub mod Demand3
 pub mod Sets
+pub mod Remembered
 pub mod Segments
 pub mod BinOrder
 pub mod LouderRings

@@ -8,7 +8,8 @@ use native.Mathlib.Omega.{arith}
 use lib.ListN.{length, getD, getD-replicate}
 use lib.Ieee.{le}
 use Rattle.laws.proofs.Tabs.{getD-tab}
-use Rattle.model.specs.Numbers.{f0, histMin}
+use Rattle.model.specs.Numbers.{f0}
+use Rattle.model.specs.Layout.{histMin, decimationHops}
 use Rattle.model.specs.Ring.{binOf, rawFloor}
 use Rattle.model.specs.Bank.{FloorBank, Hop, freshChannel, freshBank, channel, seedsAfter, chansAfter, rawFloors, fastStep, slowStep, stepAt, bankStep}
 use Rattle.model.specs.Readings.{rawAt}
@@ -42,7 +43,7 @@ fresh-quieter n =
 fast-quieter : (b d : FloorBank) (h i : Hop) → Quieter b d → Quieter (fastStep b h) (fastStep d i)
 unfolding fastStep
 fast-quieter b d h i o =
-    record { same-n = o .same-n; same-phase = ap (λ (p : ℕ). (p + 1) % 15) (o .same-phase); rings = o .rings; raw = o .raw }
+    record { same-n = o .same-n; same-phase = ap (λ (p : ℕ). (p + 1) % decimationHops) (o .same-phase); rings = o .rings; raw = o .raw }
 
 raw-slow : (b : FloorBank) (h : Hop) (k : ℕ) → k < b .n → rawAt (slowStep b h) k ≡ rawFloor (channel (slowStep b h) k)
 unfolding slowStep rawFloors
@@ -52,7 +53,7 @@ slow-quieter : (b d : FloorBank) (h i : Hop) → Good b → Quieter b d → HopA
 slow-quieter b d h i g o q =
     record {
       same-n = (unfold slowStep in o .same-n);
-      same-phase = (unfold slowStep in ap (λ (p : ℕ). (p + 1) % 15) (o .same-phase));
+      same-phase = (unfold slowStep in ap (λ (p : ℕ). (p + 1) % decimationHops) (o .same-phase));
       rings = λ k l. pushed k (unfold slowStep in l);
       raw =
           λ k l.

@@ -12,7 +12,8 @@ use lib.Ieee.{Float, lt, le, eq, isNan, neg, add, sub, mul, div, ofBits, ofInt, 
 use lib.Count.{trailingZeros}
 use Rattle.laws.specs.Tests.{anyBelow}
 use Rattle.laws.proofs.Tests.{by-test, and-false-r}
-use Rattle.model.specs.Numbers.{f0, histMin}
+use Rattle.model.specs.Numbers.{f0}
+use Rattle.model.specs.Layout.{histMin, decimationHops}
 use Rattle.model.specs.Ring.{floorHeld, binOf, push, pushAs, pushIn, without, insert, sorted, smallest, quartile, rawFloor, usableFloor}
 use Rattle.model.specs.Bank.{FloorBank, Hop, hop, firstAt, ranked, median, freshChannel, freshBank, seedsAfter, sumsAfter, chansAfter, rawFloors, usableFloors, blockFloors, effectiveFloor, fastStep, slowStep, bankStep}
 use Rattle.model.specs.Stores.{bankLen, bankFLen}
@@ -129,4 +130,4 @@ can-rise = somewhere Rises 0 f0 (minus 100 1) f0 (minus 60 1) refl refl refl
 -- that of -50. At the bottom the block takes its first seed, so the same bin 0 is an entry like any other, and the lower of two
 pub can-fall : CanFall
 unfolding binOf floorHeld push pushAs pushIn without insert sorted smallest quartile usableFloor firstAt ranked median freshChannel freshBank seedsAfter sumsAfter chansAfter usableFloors blockFloors effectiveFloor slowStep fastStep bankStep effectiveAt add sub mul div neg lt le eq isNan ofBits ofInt round sum odd units size span climb ofFields trailingZeros
-can-fall = somewhere Falls 15 (minus 200 1) (minus 50 1) histMin (minus 50 1) refl refl (refl, refl)
+can-fall = somewhere Falls decimationHops (minus 200 1) (minus 50 1) histMin (minus 50 1) refl refl (refl, refl)

@@ -10,7 +10,7 @@ use lib.ListN.{length, set, take}
 use lib.Ieee.{le, lt, eq, ofBits, odd, ofFields, neg}
 use lib.Count.{trailingZeros}
 use Rattle.laws.proofs.Lower.{Lower, lower-same, lower-take, lower-set}
-use Rattle.model.specs.Numbers.{histMin}
+use Rattle.model.specs.Layout.{histMin}
 use Rattle.model.specs.Ring.{ChannelFloor, smallest, entries, without, quartileOf, quartile, rawFloor, pushAs, push, pushIn}
 use Rattle.model.specs.Sound.{Sound}
 use Rattle.model.proofs.Rank.{lower-smallest}

@@ -1,5 +1,5 @@
--- The history of one channel, for a ring of R places (250) and K bins (280): what its newest j entries are, and how much of the lead is left
--- after j pushes. Nothing here computes a list of 250. Assumes nothing.
+-- The history of one channel, for a ring of R places and K bins: what its newest j entries are, and how much of the lead is left
+-- after j pushes. Nothing here computes a list that long. Assumes nothing.
 use mathlib.Core.Path.{_≡_, refl, sym, ap, _∙_, subst}
 use mathlib.Core.List.{List, [], _∷_, _++_}
 use mathlib.Core.Bool.{Bool, true, false, _&&_}

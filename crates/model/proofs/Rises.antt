@@ -14,10 +14,11 @@ use Rattle.laws.proofs.Tests.{by-test, and-l, and-r, within-of}
 use Rattle.laws.proofs.Tabs.{tab-same}
 use Rattle.model.specs.Bank.{FloorBank}
 use Rattle.model.specs.Windows.{PowerLooks, freshLook, stepLook}
-use Rattle.model.specs.Gate.{Gate, Settings, among, distinct, freshGate, sampleOf, gateStep, earlyRise, thresholdAt, windowRise, riseBytes}
+use Rattle.model.specs.Gate.{Gate, Settings, among, distinct, freshGate, sampleOf, gateStep, thresholdOf, earlyRise}
 use Rattle.model.specs.GateCalls.{GateHop, allWithin, goodLengths}
 use Rattle.model.specs.GoodGate.{GoodLook}
-use Rattle.model.proofs.FreshGates.{good-fresh-look}
+use Rattle.model.specs.Anew.{windowRiseAnew, riseBytesAnew}
+use Rattle.model.proofs.FreshGates.{bare, good-fresh-look}
 use Rattle.model.proofs.Windows.{runLook, good-run-look, m-run, cursor-run, look-forgets}
 
 abbrev pub runGate : Gate → List GateHop → Gate
@@ -99,18 +100,18 @@ look-history n m xs ys fs e h =
 
 -- ---- all lengths
 
-fresh-n : (s : Settings) (hs : List GateHop) → runGate (freshGate s) hs .n ≡ s .n
+fresh-n : (s : Settings) (hs : List GateHop) → runGate (bare (freshGate s)) hs .n ≡ s .n
 unfolding freshGate
-fresh-n s hs = make-run hs (freshGate s) .n
+fresh-n s hs = make-run hs (bare (freshGate s)) .n
 
 fresh-looks : (s : Settings) (hs : List GateHop)
-    → runGate (freshGate s) hs .looks ≡ map (λ (m : ℕ). runLook (s .n) (freshLook (s .n) m) hs) (distinct [] (s .lengths))
+    → runGate (bare (freshGate s)) hs .looks ≡ map (λ (m : ℕ). runLook (s .n) (freshLook (s .n) m) hs) (distinct [] (s .lengths))
 unfolding freshGate
-fresh-looks s hs = looks-run hs (freshGate s) ∙ map-map (λ (l : PowerLooks). runLook (s .n) l hs) (freshLook (s .n)) (distinct [] (s .lengths))
+fresh-looks s hs = looks-run hs (bare (freshGate s)) ∙ map-map (λ (l : PowerLooks). runLook (s .n) l hs) (freshLook (s .n)) (distinct [] (s .lengths))
 
 pub looks-forget : (s : Settings) (xs ys fs : List GateHop) → goodLengths (s .lengths) ≡ true
     → ((m : ℕ) → among m (s .lengths) ≡ true → length xs % (2 * m) ≡ length ys % (2 * m)) → 1500 ≤ length fs
-    → runGate (runGate (freshGate s) xs) fs .looks ≡ runGate (runGate (freshGate s) ys) fs .looks
+    → runGate (runGate (bare (freshGate s)) xs) fs .looks ≡ runGate (runGate (bare (freshGate s)) ys) fs .looks
 looks-forget s xs ys fs good agree h =
     looks-are xs
     ∙ each (distinct [] (s .lengths)) (every-distinct (Length (length xs) (length ys)) [] (s .lengths) taken)
@@ -119,9 +120,9 @@ looks-forget s xs ys fs good agree h =
     after : List GateHop → ℕ → PowerLooks
     after hs m = runLook (s .n) (runLook (s .n) (freshLook (s .n) m) hs) fs
 
-    looks-are : (hs : List GateHop) → runGate (runGate (freshGate s) hs) fs .looks ≡ map (after hs) (distinct [] (s .lengths))
+    looks-are : (hs : List GateHop) → runGate (runGate (bare (freshGate s)) hs) fs .looks ≡ map (after hs) (distinct [] (s .lengths))
     looks-are hs =
-        looks-run fs (runGate (freshGate s) hs)
+        looks-run fs (runGate (bare (freshGate s)) hs)
         ∙ ap₂ (λ (n : ℕ) (ls : List PowerLooks). map (λ (l : PowerLooks). runLook n l fs) ls) (fresh-n s hs) (fresh-looks s hs)
         ∙ map-map (λ (l : PowerLooks). runLook (s .n) l fs) (λ (m : ℕ). runLook (s .n) (freshLook (s .n) m) hs) (distinct [] (s .lengths))
 
@@ -134,9 +135,9 @@ looks-forget s xs ys fs good agree h =
     each [] t = refl
     each (m ∷ ms) t = ap₂ (λ (a : PowerLooks) (r : List PowerLooks). a ∷ r) (look-history (s .n) m xs ys fs (t .0) h) (each ms (t .1))
 
--- ---- the rises of two gates with equal windows, early absent, against banks with equal rise floors
+-- ---- the rises of two gates with equal windows, early absent, against banks with equal rise floors, as the ladder gives them
 
 pub rises-same : (g h : Gate) (b d : FloorBank) → SameMake g h → g .early ≡ 65535 → g .looks ≡ h .looks → g .started ≡ h .started → b .rise ≡ d .rise
-    → riseBytes g b ≡ riseBytes h d
-unfolding riseBytes earlyRise windowRise thresholdAt
+    → riseBytesAnew g b ≡ riseBytesAnew h d
+unfolding riseBytesAnew earlyRise windowRiseAnew thresholdOf
 rises-same g h b d s e l t r = tab-same (g .n) (h .n) _ _ (s .n) (λ k _. rw (e, sym (s .early) ∙ e, s .n, s .on, l, t, r))

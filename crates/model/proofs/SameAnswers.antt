@@ -15,6 +15,7 @@ use Rattle.laws.specs.Lists.{tab, occ}
 use Rattle.laws.proofs.Tests.{by-test}
 use Rattle.laws.proofs.Tabs.{tab-ext}
 use Rattle.model.specs.Numbers.{f0}
+use Rattle.model.specs.Layout.{bins, ringLen, blockChannels}
 use Rattle.model.specs.Ring.{ChannelFloor, binOf, centreOf, entries, uncounted, oldest, pushAs, push, pushIn, smallest, quartile, rawFloor, usableFloor, skipOf}
 use Rattle.model.specs.Bank.{FloorBank, Hop, freshChannel, seedsAfter, sumsAfter, channelAfter, chansAfter, rawFloors, usableFloors, blockFloors, riseFloors, slowStep, stepAt, bankStep}
 use Rattle.model.specs.Sound.{Sound}
@@ -33,31 +34,31 @@ use Rattle.model.proofs.GoodBanks.{ready}
 down : (x : ℕ) → cond (eqb x 0) 0 (x - 1) ≡ x - 1
 down x = by-test (eqb x 0) (λ t. rw t (omega (arith, eqb-true x 0 t))) (λ t. rw t)
 
-module _ (c : ChannelFloor) (b : ℕ) (s : Sound 250 280 c) (h : b < 280) where
-  -- a count that is within 250 once it has gone up does not saturate
-  up : (cs : List ℕ) → length cs ≡ 280 → getD (set cs b (getD cs b 0 + 1)) b 0 ≤ 250 → set cs b (min (getD cs b 0 + 1) carriedTop) ≡ set cs b (getD cs b 0 + 1)
+module _ (c : ChannelFloor) (b : ℕ) (s : Sound ringLen bins c) (h : b < bins) where
+  -- a count that is within the ring's length once it has gone up does not saturate
+  up : (cs : List ℕ) → length cs ≡ bins → getD (set cs b (getD cs b 0 + 1)) b 0 ≤ ringLen → set cs b (min (getD cs b 0 + 1) carriedTop) ≡ set cs b (getD cs b 0 + 1)
   up cs l w = ap (set cs b) (let e : min (getD cs b 0 + 1) carriedTop ≡ getD cs b 0 + 1 = omega (arith, getD-set-same cs b (getD cs b 0 + 1) 0 (omega arith)) in e)
 
-  same-counts : (t : Bool) → getD (pushAs t 250 c b .counts) b 0 ≤ 250 → carriedCounts t c b ≡ pushAs t 250 c b .counts
+  same-counts : (t : Bool) → getD (pushAs t ringLen c b .counts) b 0 ≤ ringLen → carriedCounts t c b ≡ pushAs t ringLen c b .counts
   unfolding pushAs
   same-counts true w =
       let o = oldest c in
-      let low : length (uncounted (c .counts) o) ≡ 280 = length-set (c .counts) o (getD (c .counts) o 0 - 1) ∙ s .counts-length in
+      let low : length (uncounted (c .counts) o) ≡ bins = length-set (c .counts) o (getD (c .counts) o 0 - 1) ∙ s .counts-length in
       ap (λ (v : ℕ). set (set (c .counts) o v) b (min (getD (set (c .counts) o v) b 0 + 1) carriedTop)) (down (getD (c .counts) o 0))
       ∙ up (uncounted (c .counts) o) low w
   same-counts false w = up (c .counts) (s .counts-length) w
 
-  same-push : (q : Bool) → carriedPush 250 q c b ≡ pushIn 250 q c b
+  same-push : (q : Bool) → carriedPush ringLen q c b ≡ pushIn ringLen q c b
   unfolding carriedPush pushIn push
   same-push q =
-      let e : carriedCounts (eqb (c .filled) 250) c b ≡ pushIn 250 q c b .counts = same-counts (eqb (c .filled) 250) (counts-within 250 280 c s .after q b h b h) in
+      let e : carriedCounts (eqb (c .filled) ringLen) c b ≡ pushIn ringLen q c b .counts = same-counts (eqb (c .filled) ringLen) (counts-within ringLen bins c s .after q b h b h) in
       λ i.
       record {
-        ring = pushIn 250 q c b .ring;
+        ring = pushIn ringLen q c b .ring;
         counts = e i;
-        next = pushIn 250 q c b .next;
-        filled = pushIn 250 q c b .filled;
-        lead = pushIn 250 q c b .lead;
+        next = pushIn ringLen q c b .next;
+        filled = pushIn ringLen q c b .filled;
+        lead = pushIn ringLen q c b .lead;
       }
 
 -- ---- the floors
@@ -146,14 +147,14 @@ module _ (b : FloorBank) (h : Hop) (g : Good b) where
   same-chans =
       tab-ext (b .n) (carriedChannel (b .chans) (seedsAfter b (h .db)) (h .db)) (channelAfter (b .chans) (seedsAfter b (h .db)) (h .db))
       (λ k l.
-      same-push (getD (b .chans) k freshChannel) (binOf (getD (h .db) k f0)) (g .sound k l) (bin-below (getD (h .db) k f0)) (eqb 0 (getD (seedsAfter b (h .db)) (k / 32) 0)))
+      same-push (getD (b .chans) k freshChannel) (binOf (getD (h .db) k f0)) (g .sound k l) (bin-below (getD (h .db) k f0)) (eqb 0 (getD (seedsAfter b (h .db)) (k / blockChannels) 0)))
 
-  sound-after : (k : ℕ) → k < b .n → Sound 250 280 (getD chans′ k freshChannel)
+  sound-after : (k : ℕ) → k < b .n → Sound ringLen bins (getD chans′ k freshChannel)
   unfolding chans′ slowStep
   sound-after k l = good-slow b h g .sound k l
 
   -- a floor of each channel
-  same-floors : (carriedOf floorOf : ChannelFloor → Float) → ((c : ChannelFloor) → Sound 250 280 c → carriedOf c ≡ floorOf c)
+  same-floors : (carriedOf floorOf : ChannelFloor → Float) → ((c : ChannelFloor) → Sound ringLen bins c → carriedOf c ≡ floorOf c)
       → tab (b .n) (λ k. carriedOf (getD carriedChans k freshChannel)) ≡ tab (b .n) (λ k. floorOf (getD chans′ k freshChannel))
   same-floors carriedOf floorOf e =
       ap (λ (cs : List ChannelFloor). tab (b .n) (λ k. carriedOf (getD cs k freshChannel))) same-chans

@@ -12,6 +12,7 @@ use lib.Count.{trailingZeros}
 use Rattle.laws.specs.Tests.{allBelow, anyBelow}
 use Rattle.laws.proofs.Tests.{by-test}
 use Rattle.model.specs.Numbers.{f0}
+use Rattle.model.specs.Layout.{settlingHops}
 use Rattle.model.specs.Bank.{FloorBank, Hop, median, firstAt, ranked, freshBank}
 use Rattle.model.specs.Stores.{bankLen, bankFLen}
 use Rattle.model.specs.Refusals.{makeRefusal, garbled}
@@ -20,9 +21,10 @@ use Rattle.model.specs.Gate.{Gate, distinct, freshGate}
 use Rattle.model.specs.GateCalls.{GateHop, goodLengths, stored, floatsFor, gateMakeRefusal, settingsOf, gateNew}
 use Rattle.model.specs.Demand3.{Call, bank, gate, Stores, answer, left, arguments, bankHop, gateHop, bankHops, gateHops, loud, firstSlowLoud, bankIn, Making, newBank, newGate, made, Made, Enough}
 use Rattle.model.specs.Sets.{gateIn, Sound, StaySound, CanBeMet}
+use Rattle.model.proofs.FreshGates.{bare}
 use Rattle.model.proofs.SettledFloors.{n-run}
 use Rattle.model.proofs.Rises.{make-run}
-use Rattle.model.proofs.Calls.{left-is, sound-left, sound-run, refuse, answer-is}
+use Rattle.model.proofs.Calls.{left-is, sound-left, bare-left, sound-run, refuse, answer-is}
 use Rattle.model.proofs.Made.{sound-made, bank-made, gate-made}
 
 pub stay-sound : StaySound
@@ -79,7 +81,7 @@ two-left s t c =
     record {
       sound = sound-left s c (t .sound);
       n = ap (λ (b : FloorBank). b .n) (l .bank-is) ∙ n-run (bankHop (answer s c) (arguments c)) (bankIn s) ∙ t .n;
-      gate-n = ap (λ (g : Gate). g .n) (l .gate-is) ∙ make-run (gateHop (answer s c) (arguments c)) (gateIn s) .n ∙ t .gate-n;
+      gate-n = ap (λ (g : Gate). g .n) (bare-left s c (t .sound)) ∙ make-run (gateHop (answer s c) (arguments c)) (bare (gateIn s)) .n ∙ t .gate-n;
     }
 
 bank-taken : (s : Stores) → Two s → answer s bankCall ≡ 0
@@ -116,11 +118,11 @@ two-fresh =
       gate-n = ap (λ (g : Gate). g .n) (gate-made two lent two-made) ∙ (unfold freshGate settingsOf two in refl);
     }
 
-enough : (i j : ℕ) → 3750 ≤ suc i → 1500 ≤ j → Enough 2 0 (made two lent) (calls (suc i) j)
+enough : (i j : ℕ) → settlingHops ≤ suc i → 1500 ≤ j → Enough 2 0 (made two lent) (calls (suc i) j)
 enough i j b g =
     let h = both-taken (suc i) j (made two lent) two-fresh in
     record { bank-updates = omega (arith, h .0); gate-updates = omega (arith, h .1); slow-hop = first-loud i j (made two lent) two-fresh }
 
 pub can-be-met : CanBeMet
 unfolding two
-can-be-met = (two, lent, calls (suc 3749) 1500, two-made, refl, enough 3749 1500 (omega arith) (omega arith))
+can-be-met = (two, lent, calls (suc settlingHops) 1500, two-made, refl, enough settlingHops 1500 (omega arith) (omega arith))

@@ -1,4 +1,4 @@
--- The bank's half of demand 3: two banks of the same n and phase, whatever they heard, have equal floors after the same 3,750 updates or more
+-- The bank's half of demand 3: two banks of the same n and phase, whatever they heard, have equal floors after the same settlingHops updates or more
 -- whose first slow hop is loud in every block. Uses no law of floats. Assumes nothing.
 use mathlib.Core.Path.{_≡_, refl, sym, ap, ap₂, _∙_}
 use mathlib.Core.List.{List, [], _∷_}
@@ -12,7 +12,8 @@ use lib.Ieee.{Float, le, add, binary64}
 use Rattle.laws.specs.Lists.{one}
 use Rattle.laws.proofs.Tests.{by-test, all-at}
 use Rattle.laws.proofs.Tabs.{getD-tab, tab-same}
-use Rattle.model.specs.Numbers.{f0, f3, histMin, fmin, fmax}
+use Rattle.model.specs.Numbers.{f0, f3, fmin, fmax}
+use Rattle.model.specs.Layout.{histMin, bins, ringLen, blockChannels, decimationHops, settlingHops}
 use Rattle.model.specs.Ring.{ChannelFloor, binOf, entries, without, quartileOf, quartile, rawFloor, usableFloor, since}
 use Rattle.model.specs.Bank.{FloorBank, Hop, blocks, block, median, freshChannel, channel, takesSeed, seedsAfter, channelAfter, chansAfter, rawFloors, usableFloors, blockFloors, effectiveFloor, riseFloor, riseFloors, fastStep, slowStep, stepAt, bankStep}
 use Rattle.model.specs.Readings.{effectiveAt}
@@ -27,7 +28,7 @@ use Rattle.model.proofs.Quartiles.{quartile-same}
 -- ---- one bank, j slow hops after a start
 
 pub record FadingBank (j : ℕ) (b : FloorBank) : Type 0 where
-  pub fading : (k : ℕ) → k < b .n → Fading 250 280 j (channel b k)
+  pub fading : (k : ℕ) → k < b .n → Fading ringLen bins j (channel b k)
   pub seeded : 0 < j → (i : ℕ) → i < blocks (b .n) → 0 < getD (b .seeds) i 0
 
 seed-loud : (s : ℕ) (med : Float) → le histMin med ≡ true → 0 < s + one (takesSeed s med)
@@ -59,11 +60,11 @@ unfolding slowStep chansAfter
 chan-after b h k l = getD-tab (b .n) (later b h) k freshChannel l
 
 fading-later : (j : ℕ) (b : FloorBank) (h : Hop) → FadingBank j b → (j ≡ 0 → loud (b .n) (h .db) ≡ true) → (k : ℕ) → k < b .n
-    → Fading 250 280 (suc j) (later b h k)
+    → Fading ringLen bins (suc j) (later b h k)
 fading-later j b h f l k m =
-    let p : 0 < getD (seedsAfter b (h .db)) (k / 32) 0 = seeds-after j b (h .db) f l (k / 32) (omega arith) in
-    rw (ne-eqb 0 (getD (seedsAfter b (h .db)) (k / 32) 0) (λ e. omega arith))
-    (fading-in 250 280 j (channel b k) (binOf (getD (h .db) k f0)) (f .fading k m) (bin-below (getD (h .db) k f0)))
+    let p : 0 < getD (seedsAfter b (h .db)) (k / blockChannels) 0 = seeds-after j b (h .db) f l (k / blockChannels) (omega arith) in
+    rw (ne-eqb 0 (getD (seedsAfter b (h .db)) (k / blockChannels) 0) (λ e. omega arith))
+    (fading-in ringLen bins j (channel b k) (binOf (getD (h .db) k f0)) (f .fading k m) (bin-below (getD (h .db) k f0)))
 
 fading-slow : (j : ℕ) (b : FloorBank) (h : Hop) → FadingBank j b → (j ≡ 0 → loud (b .n) (h .db) ≡ true) → FadingBank (suc j) (slowStep b h)
 fading-slow j b h f l =
@@ -88,14 +89,14 @@ pub record NearBank (j : ℕ) (b d : FloorBank) : Type 0 where
   pub same-n : b .n ≡ d .n
   pub same-phase : b .phase ≡ d .phase
   pub near : (k : ℕ) → k < b .n → newest j (W (channel b k)) ≡ newest j (W (channel d k))
-  pub floors : 250 ≤ j → SameStored b d
+  pub floors : ringLen ≤ j → SameStored b d
 
 near-fast : (j : ℕ) (b d : FloorBank) (h : Hop) → NearBank j b d → NearBank j (fastStep b h) (fastStep d h)
 unfolding fastStep
 near-fast j b d h e =
     record {
       same-n = e .same-n;
-      same-phase = ap (λ (p : ℕ). (p + 1) % 15) (e .same-phase);
+      same-phase = ap (λ (p : ℕ). (p + 1) % decimationHops) (e .same-phase);
       near = e .near;
       floors = λ l. record { raw = e .floors l .raw; usable = e .floors l .usable; rise = e .floors l .rise; blockFloor = e .floors l .blockFloor };
     }
@@ -103,39 +104,39 @@ near-fast j b d h e =
 near-later : (j : ℕ) (b d : FloorBank) (h : Hop) → FadingBank j b → FadingBank j d → NearBank j b d → (k : ℕ) → k < b .n
     → newest (suc j) (W (later b h k)) ≡ newest (suc j) (W (later d h k))
 near-later j b d h fb fd e k l =
-    near-in 250 280 j (eqb 0 (getD (seedsAfter b (h .db)) (k / 32) 0)) (eqb 0 (getD (seedsAfter d (h .db)) (k / 32) 0)) (channel b k) (channel d k)
+    near-in ringLen bins j (eqb 0 (getD (seedsAfter b (h .db)) (k / blockChannels) 0)) (eqb 0 (getD (seedsAfter d (h .db)) (k / blockChannels) 0)) (channel b k) (channel d k)
     (binOf (getD (h .db) k f0)) (fb .fading k l .good) (fd .fading k (omega (arith, e .same-n)) .good) (bin-below (getD (h .db) k f0)) (e .near k l)
 
 -- the seed is no longer looked at
-rise-settled : (u f : Float) (p : ℕ) (s : Float) → riseFloor u f 250 p s ≡ fmax (fmin u (add binary64 f f3)) f
+rise-settled : (u f : Float) (p : ℕ) (s : Float) → riseFloor u f ringLen p s ≡ fmax (fmin u (add binary64 f f3)) f
 unfolding riseFloor effectiveFloor
 rise-settled u f p s = refl
 
-effective-settled : (u f : Float) (p : ℕ) (s : Float) → effectiveFloor u f 250 p s ≡ fmin u (add binary64 f f3)
+effective-settled : (u f : Float) (p : ℕ) (s : Float) → effectiveFloor u f ringLen p s ≡ fmin u (add binary64 f f3)
 unfolding effectiveFloor
 effective-settled u f p s = refl
 
--- ---- a channel, once 250 slow hops have passed
+-- ---- a channel, once ringLen slow hops have passed
 
-module _ (j : ℕ) (far : 250 ≤ j) where
-  since-settled : (c : ChannelFloor) → Fading 250 280 j c → since c ≡ 250
-  since-settled c f = omega (arith, lead-gone 250 280 j far c f, filled-up 250 280 j far c f)
+module _ (j : ℕ) (far : ringLen ≤ j) where
+  since-settled : (c : ChannelFloor) → Fading ringLen bins j c → since c ≡ ringLen
+  since-settled c f = omega (arith, lead-gone ringLen bins j far c f, filled-up ringLen bins j far c f)
 
   -- usable is raw
-  usable-settled : (c : ChannelFloor) → Fading 250 280 j c → usableFloor c ≡ rawFloor c
+  usable-settled : (c : ChannelFloor) → Fading ringLen bins j c → usableFloor c ≡ rawFloor c
   unfolding usableFloor rawFloor
-  usable-settled c f = rw (lead-gone 250 280 j far c f, filled-up 250 280 j far c f)
+  usable-settled c f = rw (lead-gone ringLen bins j far c f, filled-up ringLen bins j far c f)
 
-  raw-same : (c d : ChannelFloor) → Fading 250 280 j c → Fading 250 280 j d → newest j (W c) ≡ newest j (W d) → rawFloor c ≡ rawFloor d
+  raw-same : (c d : ChannelFloor) → Fading ringLen bins j c → Fading ringLen bins j d → newest j (W c) ≡ newest j (W d) → rawFloor c ≡ rawFloor d
   unfolding rawFloor quartile without
   raw-same c d f g e =
-      quartile-same (entries c) (entries d) (entries-equal 250 280 j far c d f g e) (c .filled - 0) 280
-      (omega (arith, under-top c (good-sound 250 280 (omega arith) c (f .good))))
-      ∙ ap (λ (r : ℕ). quartileOf (r - 0) (entries d)) (filled-up 250 280 j far c f ∙ sym (filled-up 250 280 j far d g))
+      quartile-same (entries c) (entries d) (entries-equal ringLen bins j far c d f g e) (c .filled - 0) bins
+      (omega (arith, under-top c (good-sound ringLen bins (omega arith) c (f .good))))
+      ∙ ap (λ (r : ℕ). quartileOf (r - 0) (entries d)) (filled-up ringLen bins j far c f ∙ sym (filled-up ringLen bins j far d g))
 
 -- the floors that a slow hop stores
-module _ (j : ℕ) (far : 250 ≤ j) (b d : FloorBank) (h : Hop) (same-n : b .n ≡ d .n) (fb : (k : ℕ) → k < b .n → Fading 250 280 j (later b h k))
-    (fd : (k : ℕ) → k < b .n → Fading 250 280 j (later d h k))
+module _ (j : ℕ) (far : ringLen ≤ j) (b d : FloorBank) (h : Hop) (same-n : b .n ≡ d .n) (fb : (k : ℕ) → k < b .n → Fading ringLen bins j (later b h k))
+    (fd : (k : ℕ) → k < b .n → Fading ringLen bins j (later d h k))
     (near : (k : ℕ) → k < b .n → newest j (W (later b h k)) ≡ newest j (W (later d h k)))
   where
     -- the channels that a slow hop leaves
@@ -170,13 +171,13 @@ module _ (j : ℕ) (far : 250 ≤ j) (b d : FloorBank) (h : Hop) (same-n : b .n 
         tab-same (b .n) (d .n) _ _ same-n
         (λ k l.
         settled k (fb k l) (at b k l) u x p s
-        ∙ ap₂ (λ (a c : List Float). fmax (fmin (getD a k f0) (add binary64 (getD c (k / 32) f0) f3)) (getD c (k / 32) f0)) e f
+        ∙ ap₂ (λ (a c : List Float). fmax (fmin (getD a k f0) (add binary64 (getD c (k / blockChannels) f0) f3)) (getD c (k / blockChannels) f0)) e f
         ∙ sym (settled k (fd k l) (at d k (omega arith)) v y q t))
       where
-        settled : (k : ℕ) {c e : ChannelFloor} → Fading 250 280 j c → e ≡ c → (u x : List Float) (p : List ℕ) (s : List Float)
-            → riseFloor (getD u k f0) (getD x (k / 32) f0) (since e) (getD p (k / 32) 0) (getD s (k / 32) f0)
-            ≡ fmax (fmin (getD u k f0) (add binary64 (getD x (k / 32) f0) f3)) (getD x (k / 32) f0)
-        settled k {c} {e} f q u x p s = rw (q, since-settled j far c f) (rise-settled (getD u k f0) (getD x (k / 32) f0) (getD p (k / 32) 0) (getD s (k / 32) f0))
+        settled : (k : ℕ) {c e : ChannelFloor} → Fading ringLen bins j c → e ≡ c → (u x : List Float) (p : List ℕ) (s : List Float)
+            → riseFloor (getD u k f0) (getD x (k / blockChannels) f0) (since e) (getD p (k / blockChannels) 0) (getD s (k / blockChannels) f0)
+            ≡ fmax (fmin (getD u k f0) (add binary64 (getD x (k / blockChannels) f0) f3)) (getD x (k / blockChannels) f0)
+        settled k {c} {e} f q u x p s = rw (q, since-settled j far c f) (rise-settled (getD u k f0) (getD x (k / blockChannels) f0) (getD p (k / blockChannels) 0) (getD s (k / blockChannels) f0))
 
     stored-slow : SameStored (slowStep b h) (slowStep d h)
     unfolding slowStep
@@ -187,7 +188,7 @@ near-slow : (j : ℕ) (b d : FloorBank) (h : Hop) → FadingBank j b → FadingB
 near-slow j b d h fb fd l e =
     record {
       same-n = (unfold slowStep in e .same-n);
-      same-phase = (unfold slowStep in ap (λ (p : ℕ). (p + 1) % 15) (e .same-phase));
+      same-phase = (unfold slowStep in ap (λ (p : ℕ). (p + 1) % decimationHops) (e .same-phase));
       near =
           λ k m.
           (let m′ : k < b .n = (unfold slowStep in m) in
@@ -219,11 +220,11 @@ step-fast b h l = go (b .phase) l
     go zero z = absurd (omega arith)
     go (suc p) z = refl
 
-pub phase-step : (b : FloorBank) (h : Hop) → bankStep b h .phase ≡ (b .phase + 1) % 15
+pub phase-step : (b : FloorBank) (h : Hop) → bankStep b h .phase ≡ (b .phase + 1) % decimationHops
 unfolding bankStep slowStep fastStep
 phase-step b h = go (b .phase)
   where
-    go : (p : ℕ) → stepAt p b h .phase ≡ (b .phase + 1) % 15
+    go : (p : ℕ) → stepAt p b h .phase ≡ (b .phase + 1) % decimationHops
     go zero = refl
     go (suc p) = refl
 
@@ -239,7 +240,7 @@ pub n-run : (hs : List Hop) (b : FloorBank) → runBank b hs .n ≡ b .n
 n-run [] b = refl
 n-run (h ∷ hs) b = n-run hs (bankStep b h) ∙ n-step b h
 
-pub phase-run : (hs : List Hop) (b : FloorBank) (a : ℕ) → b .phase ≡ a % 15 → runBank b hs .phase ≡ (a + length hs) % 15
+pub phase-run : (hs : List Hop) (b : FloorBank) (a : ℕ) → b .phase ≡ a % decimationHops → runBank b hs .phase ≡ (a + length hs) % decimationHops
 phase-run [] b a e = omega arith
 phase-run (h ∷ hs) b a e = phase-run hs (bankStep b h) (suc a) (omega (arith, phase-step b h)) ∙ omega arith
 
@@ -264,38 +265,38 @@ alike-fast j b d h s l =
     rw (step-fast b h l, step-fast d h (omega (arith, s .both .same-phase)))
     (record { one = fading-fast j b h (s .one); other = fading-fast j d h (s .other); both = near-fast j b d h (s .both) })
 
--- a run of hops, a accepted before it, that has enough hops to come to 250 slow ones
-pub settles : (hs : List Hop) (a j : ℕ) (b d : FloorBank) → Alike j b d → b .phase ≡ a % 15 → (j ≡ 0 → firstSlowLoud (b .n) a hs ≡ true)
-    → 3750 ≤ 15 * j + length hs + (a + 14) % 15 → (i : ℕ) × (250 ≤ i) × Alike i (runBank b hs) (runBank d hs)
+-- a run of hops, a accepted before it, that has enough hops to come to ringLen slow ones
+pub settles : (hs : List Hop) (a j : ℕ) (b d : FloorBank) → Alike j b d → b .phase ≡ a % decimationHops → (j ≡ 0 → firstSlowLoud (b .n) a hs ≡ true)
+    → settlingHops ≤ decimationHops * j + length hs + (a + (decimationHops - 1)) % decimationHops → (i : ℕ) × (ringLen ≤ i) × Alike i (runBank b hs) (runBank d hs)
 settles [] a j b d s e f l = (j, omega arith, s)
 settles (h ∷ hs) a j b d s e f l =
-    by-test (eqb (a % 15) 0)
+    by-test (eqb (a % decimationHops) 0)
     (λ t.
-    settles hs (suc a) (suc j) (bankStep b h) (bankStep d h) (alike-slow j b d h s (λ z. rw t at (f z)) (e ∙ eqb-true (a % 15) 0 t)) phase′
-    (λ z. absurd (omega arith)) (omega (arith, eqb-true (a % 15) 0 t)))
+    settles hs (suc a) (suc j) (bankStep b h) (bankStep d h) (alike-slow j b d h s (λ z. rw t at (f z)) (e ∙ eqb-true (a % decimationHops) 0 t)) phase′
+    (λ z. absurd (omega arith)) (omega (arith, eqb-true (a % decimationHops) 0 t)))
     (λ t.
-    let z : a % 15 ≡ 0 → ⊥ = eqb-false (a % 15) 0 t in
+    let z : a % decimationHops ≡ 0 → ⊥ = eqb-false (a % decimationHops) 0 t in
     settles hs (suc a) j (bankStep b h) (bankStep d h) (alike-fast j b d h s (omega arith)) phase′ (λ y. rw (n-step b h) (rw t at (f y))) (omega arith))
   where
-    phase′ : bankStep b h .phase ≡ suc a % 15
+    phase′ : bankStep b h .phase ≡ suc a % decimationHops
     phase′ = omega (arith, phase-step b h)
 
 -- ---- what is settled: the floors, stored and worked out
 
-pub settled-effective : (i : ℕ) → 250 ≤ i → (b d : FloorBank) → Alike i b d → (k : ℕ) → k < b .n → effectiveAt b k ≡ effectiveAt d k
+pub settled-effective : (i : ℕ) → ringLen ≤ i → (b d : FloorBank) → Alike i b d → (k : ℕ) → k < b .n → effectiveAt b k ≡ effectiveAt d k
 unfolding effectiveAt
 settled-effective i l b d s k m =
     rw (since-settled i l (channel b k) (s .one .fading k m), since-settled i l (channel d k) (s .other .fading k (omega (arith, s .both .same-n))))
-    (effective-settled (getD (b .usable) k f0) (getD (b .blockFloor) (k / 32) f0) _ _
-    ∙ ap₂ (λ (u f : List Float). fmin (getD u k f0) (add binary64 (getD f (k / 32) f0) f3)) (s .both .floors l .usable) (s .both .floors l .blockFloor)
-    ∙ sym (effective-settled (getD (d .usable) k f0) (getD (d .blockFloor) (k / 32) f0) _ _))
+    (effective-settled (getD (b .usable) k f0) (getD (b .blockFloor) (k / blockChannels) f0) _ _
+    ∙ ap₂ (λ (u f : List Float). fmin (getD u k f0) (add binary64 (getD f (k / blockChannels) f0) f3)) (s .both .floors l .usable) (s .both .floors l .blockFloor)
+    ∙ sym (effective-settled (getD (d .usable) k f0) (getD (d .blockFloor) (k / blockChannels) f0) _ _))
 
 -- ---- two sound banks, whatever they heard: the start of what follows
 
 fading-good : (b : FloorBank) → Good b → FadingBank 0 b
 fading-good b g =
     record {
-      fading = λ k l. fading-start 250 280 (channel b k) (sound-good 250 280 (omega arith) (channel b k) (g .sound k l));
+      fading = λ k l. fading-start ringLen bins (channel b k) (sound-good ringLen bins (omega arith) (channel b k) (g .sound k l));
       seeded = λ z. absurd (omega arith);
     }
 
@@ -304,5 +305,5 @@ alike-start b d gb gd n p =
     record {
       one = fading-good b gb;
       other = fading-good d gd;
-      both = record { same-n = n; same-phase = p; near = λ k l. near-start 250 280 (channel b k) (channel d k); floors = λ z. absurd (omega arith) };
+      both = record { same-n = n; same-phase = p; near = λ k l. near-start ringLen bins (channel b k) (channel d k); floors = λ z. absurd (omega arith) };
     }

@@ -8,6 +8,7 @@ use lib.ListN.{length, getD, replicate, length-replicate, getD-replicate}
 use borrow.Author.Tests.{ltb-true, leb-true, eqb-true, lt-ltb, le-leb, eq-eqb}
 use Rattle.laws.specs.Lists.{occ}
 use Rattle.laws.proofs.Tests.{by-test, and-l, and-r, all-at, all-true}
+use Rattle.model.specs.Layout.{bins, ringLen}
 use Rattle.model.specs.Ring.{ChannelFloor, entries, pushIn}
 use Rattle.model.specs.Bank.{freshChannel}
 use Rattle.model.specs.Stores.{soundFields, soundRing, soundCounts, soundChannel}
@@ -32,48 +33,48 @@ empty R K some some′ =
       lead-within = omega arith;
     }
 
-pub sound-fresh : Sound 250 280 freshChannel
+pub sound-fresh : Sound ringLen bins freshChannel
 unfolding freshChannel
-sound-fresh = empty 250 280 (omega arith) (omega arith)
+sound-fresh = empty ringLen bins (omega arith) (omega arith)
 
 -- ---- the test
 
 -- the rules on the fields, as facts
 record Fields (next filled lead zeros : ℕ) : Type 0 where
-  next-below : next < 250
-  filled-within : filled ≤ 250
-  at-start : filled < 250 → next ≡ filled
+  next-below : next < ringLen
+  filled-within : filled ≤ ringLen
+  at-start : filled < ringLen → next ≡ filled
   lead-within : lead ≤ zeros
 
 fields-facts : (next filled lead zeros : ℕ) → soundFields next filled lead zeros ≡ true → Fields next filled lead zeros
 fields-facts next filled lead zeros h =
     record {
-      next-below = ltb-true next 250 (and-l n f (and-l (n && f) s (and-l (n && f && s) l h)));
-      filled-within = leb-true filled 250 (and-r n f (and-l (n && f) s (and-l (n && f && s) l h)));
-      at-start = λ k. eqb-true next filled (rw (lt-ltb filled 250 k) at (and-r (n && f) s (and-l (n && f && s) l h)));
+      next-below = ltb-true next ringLen (and-l n f (and-l (n && f) s (and-l (n && f && s) l h)));
+      filled-within = leb-true filled ringLen (and-r n f (and-l (n && f) s (and-l (n && f && s) l h)));
+      at-start = λ k. eqb-true next filled (rw (lt-ltb filled ringLen k) at (and-r (n && f) s (and-l (n && f && s) l h)));
       lead-within = leb-true lead zeros (and-r (n && f && s) l h);
     }
   where
     n : Bool
-    n = ltb next 250
+    n = ltb next ringLen
 
     f : Bool
-    f = leb filled 250
+    f = leb filled ringLen
 
     s : Bool
-    s = cond (ltb filled 250) (eqb next filled) true
+    s = cond (ltb filled ringLen) (eqb next filled) true
 
     l : Bool
     l = leb lead zeros
 
 fields-true : (next filled lead zeros : ℕ) → Fields next filled lead zeros → soundFields next filled lead zeros ≡ true
 fields-true next filled lead zeros k =
-    rw (lt-ltb next 250 (k .next-below), le-leb filled 250 (k .filled-within), start, le-leb lead zeros (k .lead-within))
+    rw (lt-ltb next ringLen (k .next-below), le-leb filled ringLen (k .filled-within), start, le-leb lead zeros (k .lead-within))
   where
-    start : cond (ltb filled 250) (eqb next filled) true ≡ true
-    start = by-test (ltb filled 250) (λ t. rw t (eq-eqb next filled (k .at-start (ltb-true filled 250 t)))) (λ t. rw t)
+    start : cond (ltb filled ringLen) (eqb next filled) true ≡ true
+    start = by-test (ltb filled ringLen) (λ t. rw t (eq-eqb next filled (k .at-start (ltb-true filled ringLen t)))) (λ t. rw t)
 
-pub sound-facts : (c : ChannelFloor) → length (c .ring) ≡ 250 → length (c .counts) ≡ 280 → soundChannel c ≡ true → Sound 250 280 c
+pub sound-facts : (c : ChannelFloor) → length (c .ring) ≡ ringLen → length (c .counts) ≡ bins → soundChannel c ≡ true → Sound ringLen bins c
 unfolding soundChannel soundRing soundCounts
 sound-facts c r k h =
     record {
@@ -82,11 +83,11 @@ sound-facts c r k h =
       next-below = f .next-below;
       filled-within = f .filled-within;
       at-start = f .at-start;
-      bins-below = λ i l. ltb-true (getD (c .ring) i 0) 280 (all-at (λ i. ltb (getD (c .ring) i 0) 280) 250 i (and-r F (soundRing c) FR) l);
+      bins-below = λ i l. ltb-true (getD (c .ring) i 0) bins (all-at (λ i. ltb (getD (c .ring) i 0) bins) ringLen i (and-r F (soundRing c) FR) l);
       recount =
           λ x l.
           eqb-true (getD (c .counts) x 0) (occ x (entries c))
-          (all-at (λ x. eqb (getD (c .counts) x 0) (occ x (entries c))) 280 x (and-r (F && soundRing c) (soundCounts c) h) l);
+          (all-at (λ x. eqb (getD (c .counts) x 0) (occ x (entries c))) bins x (and-r (F && soundRing c) (soundCounts c) h) l);
       lead-within = f .lead-within;
     }
   where
@@ -99,12 +100,12 @@ sound-facts c r k h =
     f : Fields (c .next) (c .filled) (c .lead) (getD (c .counts) 0 0)
     f = fields-facts (c .next) (c .filled) (c .lead) (getD (c .counts) 0 0) (and-l F (soundRing c) FR)
 
-pub sound-passes : (c : ChannelFloor) → Sound 250 280 c → soundChannel c ≡ true
+pub sound-passes : (c : ChannelFloor) → Sound ringLen bins c → soundChannel c ≡ true
 unfolding soundChannel soundRing soundCounts
 sound-passes c s =
     rw (
       fields-true (c .next) (c .filled) (c .lead) (getD (c .counts) 0 0)
           (record { next-below = s .next-below; filled-within = s .filled-within; at-start = s .at-start; lead-within = s .lead-within }),
-      all-true (λ i. ltb (getD (c .ring) i 0) 280) 250 (λ i l. lt-ltb (getD (c .ring) i 0) 280 (s .bins-below i l)),
-      all-true (λ x. eqb (getD (c .counts) x 0) (occ x (entries c))) 280 (λ x l. eq-eqb (getD (c .counts) x 0) (occ x (entries c)) (s .recount x l)),
+      all-true (λ i. ltb (getD (c .ring) i 0) bins) ringLen (λ i l. lt-ltb (getD (c .ring) i 0) bins (s .bins-below i l)),
+      all-true (λ x. eqb (getD (c .counts) x 0) (occ x (entries c))) bins (λ x l. eq-eqb (getD (c .counts) x 0) (occ x (entries c)) (s .recount x l)),
     )

@@ -7,18 +7,19 @@ use lib.ListN.{length, getD, replicate}
 use lib.IntN.{pos}
 use lib.Ieee.{Float, binary64, add, sub, mul, div, lt, le, ofInt}
 use Rattle.laws.specs.Lists.{part, tab, one, count}
-use Rattle.model.specs.Numbers.{f0, half, f3, seedOffset, histMin, freshPower, powerLinear, smoothed, fmin, fmax}
+use Rattle.model.specs.Numbers.{f0, half, f3, seedOffset, powerLinear, smoothed, fmin, fmax}
+use Rattle.model.specs.Layout.{histMin, bins, freshPower, ringLen, blockChannels, decimationHops}
 use Rattle.model.specs.Ring.{ChannelFloor, binOf, pushIn, rawFloor, usableFloor, since}
 
 -- ---- blocks and medians
 
--- B = ceil(n/32)
+-- B = ceil(n / blockChannels)
 abbrev pub blocks : ℕ → ℕ
-blocks n = (n + 31) / 32
+blocks n = (n + (blockChannels - 1)) / blockChannels
 
--- block i: 32 consecutive channels; the last may be shorter
+-- block i: blockChannels consecutive channels; the last may be shorter
 abbrev pub block : ℕ → List Float → List Float
-block i l = part (32 * i) 32 l
+block i l = part (blockChannels * i) blockChannels l
 
 -- x stands at rank r of l, from 0: at most r are below it, and more than r are not above it
 abbrev pub standsAt : ℕ → List Float → Float → Bool
@@ -54,9 +55,9 @@ pub record FloorBank : Type 0 where
   pub blockFloor : List Float
   pub seedSum : List Float
 
--- Fresh: floors -140, smoothed the literal 1e-14, rest 0
+-- Fresh: floors histMin, smoothed the literal freshPower, rest 0
 unfoldable pub freshChannel : ChannelFloor
-freshChannel = record { ring = replicate 250 0; counts = replicate 280 0; next = 0; filled = 0; lead = 0 }
+freshChannel = record { ring = replicate ringLen 0; counts = replicate bins 0; next = 0; filled = 0; lead = 0 }
 
 unfoldable pub freshBank : ℕ → FloorBank
 freshBank k =
@@ -99,7 +100,7 @@ smoothAfter b h = tab (b .n) (λ k. powerAfter (b .started) (h .held) (getD (b .
 
 -- ---- (b) a slow hop
 
--- with fewer than 25 seed pushes and a median of -140 or more ..
+-- with fewer than 25 seed pushes and a median of histMin or more ..
 abbrev pub takesSeed : ℕ → Float → Bool
 takesSeed pushes med = ltb pushes 25 && le histMin med
 
@@ -115,7 +116,7 @@ sumsAfter b db = tab (blocks (b .n)) (λ i. sumAfter (getD (b .seeds) i 0) (getD
 
 -- Then each channel pushes, by the seed pushes as they now are
 abbrev pub channelAfter : List ChannelFloor → List ℕ → List Float → ℕ → ChannelFloor
-channelAfter chans seeds db k = pushIn 250 (eqb 0 (getD seeds (k / 32) 0)) (getD chans k freshChannel) (binOf (getD db k f0))
+channelAfter chans seeds db k = pushIn ringLen (eqb 0 (getD seeds (k / blockChannels) 0)) (getD chans k freshChannel) (binOf (getD db k f0))
 
 unfoldable pub chansAfter : FloorBank → List ℕ → List Float → List ChannelFloor
 chansAfter b seeds db = tab (b .n) (channelAfter (b .chans) seeds db)
@@ -146,25 +147,25 @@ notBelow false x seed = x
 unfoldable pub effectiveFloor : Float → Float → ℕ → ℕ → Float → Float
 effectiveFloor u f e pushes sum = notBelow (ltb e 25 && ltb 0 pushes) (fmin u (add binary64 f f3)) (seedOf pushes sum)
 
--- max(effective, block floor); if filled - lead < 250 and seed pushes > 0, not below the seed
+-- max(effective, block floor); if filled - lead < ringLen and seed pushes > 0, not below the seed
 unfoldable pub riseFloor : Float → Float → ℕ → ℕ → Float → Float
-riseFloor u f e pushes sum = notBelow (ltb e 250 && ltb 0 pushes) (fmax (effectiveFloor u f e pushes sum) f) (seedOf pushes sum)
+riseFloor u f e pushes sum = notBelow (ltb e ringLen && ltb 0 pushes) (fmax (effectiveFloor u f e pushes sum) f) (seedOf pushes sum)
 
 unfoldable pub riseFloors : ℕ → List ChannelFloor → List Float → List Float → List ℕ → List Float → List Float
 riseFloors n chans usable blockFloor seeds sums =
     tab n
     (λ k.
-    riseFloor (getD usable k f0) (getD blockFloor (k / 32) f0) (since (getD chans k freshChannel)) (getD seeds (k / 32) 0)
-    (getD sums (k / 32) f0))
+    riseFloor (getD usable k f0) (getD blockFloor (k / blockChannels) f0) (since (getD chans k freshChannel)) (getD seeds (k / blockChannels) 0)
+    (getD sums (k / blockChannels) f0))
 
 -- ---- one bank update
 
--- (a) and (c): phase advances modulo 15
+-- (a) and (c): phase advances modulo decimationHops
 unfoldable pub fastStep : FloorBank → Hop → FloorBank
 fastStep b h =
     record {
       n = b .n;
-      phase = (b .phase + 1) % 15;
+      phase = (b .phase + 1) % decimationHops;
       started = 1;
       seeds = b .seeds;
       chans = b .chans;
@@ -186,7 +187,7 @@ slowStep b h =
     let block′ : List Float = blockFloors (b .n) usable′ in
     record {
       n = b .n;
-      phase = (b .phase + 1) % 15;
+      phase = (b .phase + 1) % decimationHops;
       started = 1;
       seeds = seeds′;
       chans = chans′;

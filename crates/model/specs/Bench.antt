@@ -1,4 +1,4 @@
--- Document 01, "Bench values": one table of cases, and one theorem that each holds of the definitions.
+-- Document 01, "Bench values", a to f as R-11 moves them: one table of cases, and one theorem that each holds of the definitions.
 use mathlib.Core.Path.{_≡_, refl}
 use mathlib.Core.List.{List, [], _∷_, _++_}
 use mathlib.Core.Bool.{true, false}
@@ -7,6 +7,7 @@ use lib.ListN.{getD, replicate}
 use lib.Ieee.{Float, nan, inf, binary64, neg, sub, add, div, mul, lt, le, isNan, ofBits, ofInt, round, sum, odd, units, size, span, climb, ofFields}
 use lib.Count.{trailingZeros}
 use Rattle.model.specs.Numbers.{f0}
+use Rattle.model.specs.Layout.{ringLen}
 use Rattle.model.specs.Ring.{ChannelFloor, floorHeld, binOf, push, pushAs, pushIn, without, insert, sorted, smallest, quartile, rawFloor, usableFloor}
 use Rattle.model.specs.Bank.{FloorBank, Hop, firstAt, ranked, median, freshChannel, freshBank, smoothAfter, seedsAfter, sumsAfter, chansAfter, rawFloors, usableFloors, blockFloors, riseFloors, effectiveFloor, riseFloor, slowStep, fastStep, bankStep}
 use Rattle.model.specs.Readings.{effectiveAt, riseAt}
@@ -20,7 +21,7 @@ minus m d = neg (round binary64 false m d)
 -- a channel after pushes of these bins, its block having a seed push
 abbrev pub pushes : ChannelFloor → List ℕ → ChannelFloor
 pushes c [] = c
-pushes c (b ∷ bs) = pushes (pushIn 250 false c b) bs
+pushes c (b ∷ bs) = pushes (pushIn ringLen false c b) bs
 
 -- a bank of two channels after one hop of this dB
 abbrev pub twoAfter : List Float → FloorBank
@@ -62,26 +63,26 @@ looksJ = record { m = 1; cursor = 0; filled = 2; rings = replicate 2 (replicate 
 
 abbrev pub bench : List Case
 bench =
-    -- a: -140; -139.5; -139.5 - 2^-45
-    binIs (minus 140 1) 0
-    ∷ binIs (minus 1395 10) 1
-    ∷ binIs (minus 4908219906392065 35184372088832) 0
+    -- a: -160; -159.5; -159.5 - 2^-45
+    binIs (minus 160 1) 0
+    ∷ binIs (minus 1595 10) 1
+    ∷ binIs (minus 5611907348168705 35184372088832) 0
     -- b: -0.5; -0.5 - 2^-53
-    ∷ binIs (minus 1 2) 279
-    ∷ binIs (minus 4503599627370497 9007199254740992) 279
+    ∷ binIs (minus 1 2) 319
+    ∷ binIs (minus 4503599627370497 9007199254740992) 319
     -- c
     ∷ binIs nan 0
     ∷ binIs (inf true) 0
-    ∷ binIs (round binary64 false 7 1) 279
+    ∷ binIs (round binary64 false 7 1) 319
     -- d: before a push; after one push of -200
-    ∷ rawIs [] (minus 140 1)
-    ∷ rawIs (binOf (minus 200 1) ∷ []) (minus 13975 100)
+    ∷ rawIs [] (minus 160 1)
+    ∷ rawIs (binOf (minus 200 1) ∷ []) (minus 15975 100)
     -- e
-    ∷ rawIs (10 ∷ 20 ∷ 30 ∷ 40 ∷ []) (minus 13475 100)
-    ∷ rawIs (10 ∷ 20 ∷ 30 ∷ 40 ∷ 50 ∷ []) (minus 12975 100)
+    ∷ rawIs (10 ∷ 20 ∷ 30 ∷ 40 ∷ []) (minus 15475 100)
+    ∷ rawIs (10 ∷ 20 ∷ 30 ∷ 40 ∷ 50 ∷ []) (minus 14975 100)
     -- f
-    ∷ rawIs (replicate 62 0 ++ replicate 188 100) (minus 8975 100)
-    ∷ rawIs (replicate 63 0 ++ replicate 187 100) (minus 13975 100)
+    ∷ rawIs (replicate 62 0 ++ replicate 188 100) (minus 10975 100)
+    ∷ rawIs (replicate 63 0 ++ replicate 187 100) (minus 15975 100)
     -- g
     ∷ medianIs (minus 100 1 ∷ minus 90 1 ∷ minus 80 1 ∷ minus 70 1 ∷ []) (minus 85 1)
     -- h

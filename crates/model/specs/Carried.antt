@@ -7,7 +7,8 @@ use lib.Dec.{eqb, leb}
 use lib.ListN.{getD, set}
 use lib.Ieee.{Float}
 use Rattle.laws.specs.Lists.{tab}
-use Rattle.model.specs.Numbers.{f0, histMin}
+use Rattle.model.specs.Numbers.{f0}
+use Rattle.model.specs.Layout.{histMin, ringLen, blockChannels, decimationHops}
 use Rattle.model.specs.Ring.{ChannelFloor, binOf, centreOf, oldest, pushIn, skipOf}
 use Rattle.model.specs.Bank.{FloorBank, Hop, freshChannel, smoothAfter, seedsAfter, sumsAfter, blockFloors, riseFloors, fastStep}
 
@@ -62,7 +63,7 @@ carriedUsable c = carriedQuartile (skipOf c) c
 -- ---- one bank update
 
 abbrev pub carriedChannel : List ChannelFloor → List ℕ → List Float → ℕ → ChannelFloor
-carriedChannel chans seeds db k = carriedPush 250 (eqb 0 (getD seeds (k / 32) 0)) (getD chans k freshChannel) (binOf (getD db k f0))
+carriedChannel chans seeds db k = carriedPush ringLen (eqb 0 (getD seeds (k / blockChannels) 0)) (getD chans k freshChannel) (binOf (getD db k f0))
 
 -- a slow hop: Bank's but for the pushes and for the quartiles
 unfoldable pub carriedSlow : FloorBank → Hop → FloorBank
@@ -74,7 +75,7 @@ carriedSlow b h =
     let block′ : List Float = blockFloors (b .n) usable′ in
     record {
       n = b .n;
-      phase = (b .phase + 1) % 15;
+      phase = (b .phase + 1) % decimationHops;
       started = 1;
       seeds = seeds′;
       chans = chans′;

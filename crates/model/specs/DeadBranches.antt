@@ -1,4 +1,4 @@
--- R-7, "Dead branches out of the quartile", stated: (1) and (2), why they are dead, for a ring of R places (250) and K bins (280); (3), that
+-- R-7, "Dead branches out of the quartile", stated: (1) and (2), why they are dead, for a ring of R places and K bins; (3), that
 -- answers stay equal, is in SameAnswers.antt. The words in quotes are document 02's. The proofs are `scan-ends` and `counts-within` in
 -- proofs/DeadBranches.antt.
 use mathlib.Core.Path.{_≡_}

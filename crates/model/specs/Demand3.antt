@@ -9,7 +9,7 @@ use lib.ListN.{length}
 use lib.IntN.{ℤ}
 use lib.Ieee.{Float, le}
 use Rattle.laws.specs.Tests.{allBelow}
-use Rattle.model.specs.Numbers.{histMin}
+use Rattle.model.specs.Layout.{histMin, decimationHops, settlingHops}
 use Rattle.model.specs.Bank.{FloorBank, Hop, blocks, block, median}
 use Rattle.model.specs.Readings.{rawAt, effectiveAt, riseAt}
 use Rattle.model.specs.Stores.{bankOf}
@@ -26,7 +26,7 @@ pub data Call : Type 0 where
   gate : GateHop → List ℕ → List ℕ → Call
   hold : List ℕ → List ℕ → Call
 
--- the lent stores: the bank's and the gate's
+-- the lent stores: the bank's and the gate's, with the gate's pairs (R-3), which gate updates and holds change
 pub record Stores : Type 0 where
   pub bu : List ℕ
   pub bf : List Float
@@ -39,7 +39,9 @@ step s (bank h) = let a = bankUpdate (s .bu) (s .bf) h in (a .0, record { bu = a
 step s (gate h rise drop) =
     let a = gateUpdate (s .bu) (s .bf) (s .gu) (s .gf) h rise drop in
     (a .0, record { bu = s .bu; bf = s .bf; gu = a .1; gf = a .2 })
-step s (hold rise drop) = (gateHold (s .bu) (s .bf) (s .gu) (s .gf) rise drop .0, s)
+step s (hold rise drop) =
+    let a = gateHold (s .bu) (s .bf) (s .gu) (s .gf) rise drop in
+    (a .0, record { bu = s .bu; bf = s .bf; gu = s .gu; gf = a .1 })
 
 abbrev pub answer : Stores → Call → ℕ
 answer s c = step s c .0
@@ -51,7 +53,7 @@ left s c = step s c .1
 unfoldable pub risesOf : Stores → Call → List ℕ
 risesOf s (bank h) = []
 risesOf s (gate h rise drop) = gateUpdate (s .bu) (s .bf) (s .gu) (s .gf) h rise drop .3
-risesOf s (hold rise drop) = gateHold (s .bu) (s .bf) (s .gu) (s .gf) rise drop .1
+risesOf s (hold rise drop) = gateHold (s .bu) (s .bf) (s .gu) (s .gf) rise drop .2
 
 -- a call's arguments "apart from the lent stores and what the outputs held before"
 pub data Arguments : Type 0 where
@@ -104,7 +106,7 @@ gateUpdates s cs = length (gateHops s cs)
 
 -- ---- the slow hop
 
--- "a median of -140 dB or more in each block"
+-- "a median of -140 dB or more in each block"; since R-11 histMin or more
 unfoldable pub loud : ℕ → List Float → Bool
 loud n db = allBelow (blocks n) (λ i. le histMin (median (block i db)))
 
@@ -112,7 +114,7 @@ loud n db = allBelow (blocks n) (λ i. le histMin (median (block i db)))
 -- bank updates, 0 included": a is how many were accepted before these
 abbrev pub firstSlowLoud : ℕ → ℕ → List Hop → Bool
 firstSlowLoud n a [] = true
-firstSlowLoud n a (h ∷ hs) = cond (eqb (a % 15) 0) (loud n (h .db)) (firstSlowLoud n (suc a) hs)
+firstSlowLoud n a (h ∷ hs) = cond (eqb (a % decimationHops) 0) (loud n (h .db)) (firstSlowLoud n (suc a) hs)
 
 -- ---- a fresh set
 
@@ -154,10 +156,10 @@ pub record SameFloors (n : ℕ) (s t : Stores) : Type 0 where
 -- what is asked of a further list fs after s, a bank updates having been accepted before it
 pub record Enough (n a : ℕ) (s : Stores) (fs : List Call) : Type 0 where
   -- "if it has at least 3,750 accepted bank updates"
-  pub bank-updates : 3750 ≤ bankUpdates s fs
+  pub bank-updates : settlingHops ≤ bankUpdates s fs
   -- "and 1,500 accepted gate updates"
   pub gate-updates : 1500 ≤ gateUpdates s fs
-  -- "and its first accepted slow hop has a median of -140 dB or more in each block"
+  -- "and its first accepted slow hop has a median of -140 dB or more in each block"; since R-11 histMin or more
   pub slow-hop : firstSlowLoud n a (bankHops s fs) ≡ true
 
 -- the same from here on, of a set that is in s and one that is in t
@@ -179,7 +181,7 @@ Demand3 =
     -- "take any two lists of bank updates, gate updates and holds"
     → (xs ys : List Call)
     -- "whose numbers of accepted bank updates are equal modulo 15"
-    → bankUpdates (made k p) xs % 15 ≡ bankUpdates (made k q) ys % 15
+    → bankUpdates (made k p) xs % decimationHops ≡ bankUpdates (made k q) ys % decimationHops
     -- "and of accepted gate updates modulo twice every window length"
     → ((m : ℕ) → among m (k .lengths) ≡ true → gateUpdates (made k p) xs % (2 * m) ≡ gateUpdates (made k q) ys % (2 * m))
     -- "whatever further list of these calls follows both": with the same arguments

@@ -25,11 +25,12 @@ gate-does s h rise drop rise′ drop′ r u f e = (
   ap (λ (a : ℕ × List ℕ × List Float × List ℕ × List ℕ). a .3) e,
 )
 
--- wolfcloak_gate_hold, which is lent the gate's stores to read only
-pub hold-does : (s : Stores) (rise drop rise′ drop′ : List ℕ) (r : ℕ) → (r, rise′, drop′) ≡ gateHold (s .bu) (s .bf) (s .gu) (s .gf) rise drop
-    → ((r, s) ≡ step s (hold rise drop)) × (rise′ ≡ risesOf s (hold rise drop))
+-- wolfcloak_gate_hold, which is lent the gate's u16 store to read only
+pub hold-does : (s : Stores) (rise drop rise′ drop′ : List ℕ) (r : ℕ) (f : List Float)
+    → (r, f, rise′, drop′) ≡ gateHold (s .bu) (s .bf) (s .gu) (s .gf) rise drop
+    → ((r, record { bu = s .bu; bf = s .bf; gu = s .gu; gf = f }) ≡ step s (hold rise drop)) × (rise′ ≡ risesOf s (hold rise drop))
 unfolding step risesOf
-hold-does s rise drop rise′ drop′ r e = (
-  ap (λ (a : ℕ × List ℕ × List ℕ). (a .0, s)) e,
-  ap (λ (a : ℕ × List ℕ × List ℕ). a .1) e,
+hold-does s rise drop rise′ drop′ r f e = (
+  ap (λ (a : ℕ × List Float × List ℕ × List ℕ). (a .0, record { bu = s .bu; bf = s .bf; gu = s .gu; gf = a .1 })) e,
+  ap (λ (a : ℕ × List Float × List ℕ × List ℕ). a .2) e,
 )

@@ -6,7 +6,7 @@ use Prim.Native.Nat.{ℕ, zero, suc}
 use lib.Dec.{eqb}
 use lib.ListN.{getD, replicate}
 use lib.IntN.{pos}
-use lib.Ieee.{Float, binary64, add, sub, div, lt, le, ofInt, ofBits, round}
+use lib.Ieee.{Float, nan, binary64, add, sub, div, lt, le, ne, ofInt, ofBits, round}
 use Rattle.laws.specs.Lists.{tab, one}
 use Rattle.model.specs.Numbers.{f0, powerLinear, smoothed}
 use Rattle.model.specs.Bank.{FloorBank}
@@ -23,6 +23,9 @@ pub record Gate : Type 0 where
   pub early : ℕ
   pub looks : List PowerLooks
   pub smooth : List Float
+  -- R-3: for each channel the rise floor last used, and its threshold
+  pub used : List Float
+  pub threshold : List Float
 
 -- what a gate is made with, levels as the store has them
 pub record Settings : Type 0 where
@@ -51,6 +54,9 @@ freshGate s =
       early = s .early;
       looks = map (freshLook (s .n)) (distinct [] (s .lengths));
       smooth = replicate (s .n) f0;
+      -- R-3: fresh NaN, fresh 0
+      used = replicate (s .n) nan;
+      threshold = replicate (s .n) f0;
     }
 
 -- ---- gate update
@@ -64,6 +70,7 @@ dbAfter (suc t) s x = smoothed s x
 abbrev pub sampleOf : List Float → ℕ → Float
 sampleOf power k = powerLinear (getD power k f0)
 
+-- the hop; the pairs of R-3 come after it
 unfoldable pub gateStep : Gate → List Float → List Float → Gate
 gateStep g db power =
     record {
@@ -74,9 +81,11 @@ gateStep g db power =
       early = g .early;
       looks = map (stepLook (g .n) (sampleOf power)) (g .looks);
       smooth = tab (g .n) (λ k. dbAfter (g .started) (getD (g .smooth) k f0) (getD db k f0));
+      used = g .used;
+      threshold = g .threshold;
     }
 
--- ---- judgement
+-- ---- levels
 
 abbrev pub f800 : Float
 f800 = ofBits binary64 0x4089_0000_0000_0000
@@ -89,16 +98,52 @@ f800-is = refl
 abbrev pub levelOf : ℕ → Float
 levelOf x = div binary64 (sub binary64 (ofInt binary64 (pos x)) f800) f8
 
+-- ---- R-3: the remembered threshold
+
+-- threshold = ladder(rise floor + on)
+unfoldable pub thresholdOf : Gate → Float → Float
+thresholdOf g floor = ladder (add binary64 floor (levelOf (g .on)))
+
+-- the channel's stored rise floor differs from the one last used: a NaN always does, zeros of either sign don't
+unfoldable pub differs : Gate → FloorBank → ℕ → Bool
+differs g b k = ne (riseAt b k) (getD (g .used) k nan)
+
+-- every channel's pair brought up to date: the threshold is worked out only if that floor differs, else the pair stays as found
+unfoldable pub refresh : Gate → FloorBank → Gate
+refresh g b =
+    record {
+      n = g .n;
+      started = g .started;
+      on = g .on;
+      off = g .off;
+      early = g .early;
+      looks = g .looks;
+      smooth = g .smooth;
+      used = tab (g .n) (λ k. cond (differs g b k) (riseAt b k) (getD (g .used) k nan));
+      threshold = tab (g .n) (λ k. cond (differs g b k) (thresholdOf g (riseAt b k)) (getD (g .threshold) k f0));
+    }
+
+-- each gate update ..
+unfoldable pub updateStep : Gate → FloorBank → List Float → List Float → Gate
+updateStep g b db power = refresh (gateStep g db power) b
+
+-- .. and each hold with started 1; a hold with started 0 changes nothing
+abbrev pub holdAt : ℕ → Gate → FloorBank → Gate
+holdAt zero g b = g
+holdAt (suc s) g b = refresh g b
+
+unfoldable pub holdStep : Gate → FloorBank → Gate
+holdStep g b = holdAt (g .started) g b
+
+-- ---- judgement
+
 -- smoothed >= effective + early, unless early is absent
 unfoldable pub earlyRise : Gate → FloorBank → ℕ → Bool
 earlyRise g b k = not (eqb (g .early) 65535) && le (add binary64 (effectiveAt b k) (levelOf (g .early))) (getD (g .smooth) k f0)
 
--- threshold = ladder(rise floor + on)
-unfoldable pub thresholdAt : Gate → FloorBank → ℕ → Float
-thresholdAt g b k = ladder (add binary64 (riseAt b k) (levelOf (g .on)))
-
-unfoldable pub windowRise : Gate → FloorBank → ℕ → Bool
-windowRise g b k = anyRises (g .n) (thresholdAt g b k) k (g .looks)
+-- R-3: with the pair as it stands
+unfoldable pub windowRise : Gate → ℕ → Bool
+windowRise g k = anyRises (g .n) (getD (g .threshold) k f0) k (g .looks)
 
 -- smoothed < effective + off
 unfoldable pub dropAt : Gate → FloorBank → ℕ → Bool
@@ -106,7 +151,7 @@ dropAt g b k = lt (getD (g .smooth) k f0) (add binary64 (effectiveAt b k) (level
 
 -- the rise and drop bytes; before the first update false, false
 unfoldable pub riseBytes : Gate → FloorBank → List ℕ
-riseBytes g b = tab (g .n) (λ k. one (not (eqb (g .started) 0) && (earlyRise g b k || windowRise g b k)))
+riseBytes g b = tab (g .n) (λ k. one (not (eqb (g .started) 0) && (earlyRise g b k || windowRise g k)))
 
 unfoldable pub dropBytes : Gate → FloorBank → List ℕ
 dropBytes g b = tab (g .n) (λ k. one (not (eqb (g .started) 0) && dropAt g b k))

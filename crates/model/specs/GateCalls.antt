@@ -13,8 +13,8 @@ use Rattle.model.specs.Bank.{FloorBank}
 use Rattle.model.specs.Stores.{bankOf}
 use Rattle.model.specs.Refusals.{bankRefusal}
 use Rattle.model.specs.Readings.{reading}
-use Rattle.model.specs.Gate.{Gate, Settings, distinct, freshGate, gateStep, earlyRise, riseBytes, dropBytes}
-use Rattle.model.specs.GateStores.{gateU, gateF, gateOf, gateFLen, lookStart, soundGate}
+use Rattle.model.specs.Gate.{Gate, Settings, distinct, freshGate, updateStep, holdStep, earlyRise, riseBytes, dropBytes}
+use Rattle.model.specs.GateStores.{gateU, gateF, gateOf, floats, gateFLen, soundGate}
 use Rattle.model.specs.declared.Reading.{Reading}
 
 -- ---- making: 1, 3, 4, 2
@@ -43,7 +43,7 @@ absent (negsuc x) = false
 
 -- the floats of a gate of n channels and these distinct lengths
 abbrev pub floatsFor : ℕ → List ℕ → ℕ
-floatsFor n ms = lookStart n (λ j. getD ms j 0) (length ms)
+floatsFor n ms = floats n (λ j. getD ms j 0) (length ms)
 
 unfoldable pub gateMakeRefusal : ℕ → ℕ → ℕ → ℤ → ℤ → ℤ → List ℕ → ℕ
 gateMakeRefusal uLen fLen n on off early lengths =
@@ -109,17 +109,20 @@ unfoldable pub gateUpdate : List ℕ → List Float → List ℕ → List Float 
     → ℕ × List ℕ × List Float × List ℕ × List ℕ
 gateUpdate bu bf gu gf h rise drop =
     let r = gateUpdateRefusal bu bf gu gf (length (h .db)) (length (h .power)) (length rise) (length drop) in
-    let g = gateStep (gateOf gu gf) (h .db) (h .power) in
+    let b = bankOf bu bf in
+    let g = updateStep (gateOf gu gf) b (h .db) (h .power) in
     let left = gateLeaves r g gu gf in
-    let marks = marksOf r g (bankOf bu bf) rise drop in
+    let marks = marksOf r g b rise drop in
     (left .0, left .1, left .2, marks .0, marks .1)
 
--- a hold: the answer, rise and drop. It judges without stepping
-unfoldable pub gateHold : List ℕ → List Float → List ℕ → List Float → List ℕ → List ℕ → ℕ × List ℕ × List ℕ
+-- a hold: the answer, the gate's f64 store (R-3), rise and drop. It judges without stepping
+unfoldable pub gateHold : List ℕ → List Float → List ℕ → List Float → List ℕ → List ℕ → ℕ × List Float × List ℕ × List ℕ
 gateHold bu bf gu gf rise drop =
     let r = holdRefusal bu bf gu gf (length rise) (length drop) in
-    let marks = marksOf r (gateOf gu gf) (bankOf bu bf) rise drop in
-    (r, marks .0, marks .1)
+    let b = bankOf bu bf in
+    let g = holdStep (gateOf gu gf) b in
+    let marks = marksOf r g b rise drop in
+    (r, gateLeaves r g gu gf .2, marks .0, marks .1)
 
 -- ---- readings
 

@@ -26,9 +26,9 @@ gateU g =
 abbrev pub lookF : PowerLooks → List Float
 lookF l = joined (l .rings) ++ (l .recent ++ l .previous)
 
--- f64: smoothed n, then the lengths
+-- f64: smoothed n, then the lengths; R-3: then, of n each, the rise floors last used and their thresholds
 abbrev pub gateF : Gate → List Float
-gateF g = g .smooth ++ joined (map lookF (g .looks))
+gateF g = g .smooth ++ (joined (map lookF (g .looks)) ++ (g .used ++ g .threshold))
 
 -- ---- read
 
@@ -62,6 +62,10 @@ lookOf n k c t l =
       previous = part (2 * k * n + n) n l;
     }
 
+-- where the pairs of R-3 begin: behind the last length
+abbrev pub pairStart : List ℕ → ℕ
+pairStart u = lookStart (getD u 0 0) (mAt u) (getD u 5 0)
+
 unfoldable pub gateOf : List ℕ → List Float → Gate
 gateOf u f =
     let n = getD u 0 0 in
@@ -73,11 +77,16 @@ gateOf u f =
       early = getD u 4 0;
       looks = tab (getD u 5 0) (λ j. lookOf n (mAt u j) (cursorAt u j) (filledAt u j) (part (lookStart n (mAt u) j) (lookSize n (mAt u j)) f));
       smooth = part 0 n f;
+      used = part (pairStart u) n f;
+      threshold = part (pairStart u + n) n f;
     }
 
--- the f64 store of n channels and count lengths
+-- the f64 store of n channels and so many lengths, with the two groups of R-3
+abbrev pub floats : ℕ → (ℕ → ℕ) → ℕ → ℕ
+floats n m count = lookStart n m count + 2 * n
+
 abbrev pub gateFLen : List ℕ → ℕ
-gateFLen u = lookStart (getD u 0 0) (mAt u) (getD u 5 0)
+gateFLen u = floats (getD u 0 0) (mAt u) (getD u 5 0)
 
 -- ---- sound
 

@@ -33,6 +33,8 @@ pub record GoodGate (g : Gate) : Type 0 where
   pub some : 1 ≤ length (g .looks)
   pub few : length (g .looks) ≤ 8
   pub smooth-long : length (g .smooth) ≡ g .n
+  pub used-long : length (g .used) ≡ g .n
+  pub threshold-long : length (g .threshold) ≡ g .n
   pub look : (j : ℕ) → j < length (g .looks) → GoodLook (g .n) (lookAt g j)
   pub distinct : (i j : ℕ) → i < j → j < length (g .looks) → lookAt g i .m ≡ lookAt g j .m → ⊥
 

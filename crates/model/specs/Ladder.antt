@@ -1,14 +1,14 @@
--- Document 01, "Windows, ladder, gate": the ladder, which stands in for powf.
+-- Document 01, "Windows, ladder, gate": the ladder, which stands in for powf; document 02, R-5: rounded upward.
 use mathlib.Core.Path.{_≡_, refl}
 use mathlib.Core.Bool.{Bool, true, false, cond, _&&_}
 use mathlib.Core.List.{List, [], _∷_}
-use Prim.Native.Nat.{ℕ, suc, _+_, _-_, _/_, _%_, _^_}
+use Prim.Native.Nat.{ℕ, suc, _+_, _-_, _*_, _/_, _%_, _^_, min}
 use lib.Dec.{leb, ltb}
 use lib.ListN.{getD}
 use lib.IntN.{pos}
-use lib.Ieee.{Float, nan, binary64, neg, mul, lt, le, eq, isNan, ofInt, ofBits, round}
+use lib.Ieee.{Float, nan, inf, fin, up, down, binary64, neg, mul, lt, isNan, ofInt, ofBits, round}
 use Rattle.laws.specs.Tests.{allBelow}
-use Rattle.model.specs.Numbers.{f0}
+use Rattle.model.specs.Layout.{ladderMin, ladderMax, rungsBelow, rungsAbove, zeroTen}
 use Rattle.model.specs.Ring.{floorHeld}
 
 -- T: 80 whole numbers
@@ -27,9 +27,9 @@ pub roots-right : allBelow 80 (λ j. isRoot j (rootOf j)) ≡ true
 unfolding allBelow rootOf
 roots-right = refl
 
--- the literal of 10^(q - 33)
+-- the literal of 10^(q - zeroTen)
 unfoldable pub tenTo : ℕ → Float
-tenTo q = cond (ltb q 33) (round binary64 false 1 (10 ^ (33 - q))) (round binary64 false (10 ^ (q - 33)) 1)
+tenTo q = cond (ltb q zeroTen) (round binary64 false 1 (10 ^ (zeroTen - q))) (round binary64 false (10 ^ (q - zeroTen)) 1)
 
 abbrev pub f8 : Float
 f8 = ofBits binary64 0x4020_0000_0000_0000
@@ -38,36 +38,26 @@ f8-is : f8 ≡ round binary64 false 8 1
 unfolding ofBits round
 f8-is = refl
 
-abbrev pub f240 : Float
-f240 = ofBits binary64 0x406e_0000_0000_0000
-
-f240-is : f240 ≡ round binary64 false 240 1
-unfolding ofBits round
-f240-is = refl
-
-abbrev pub f400 : Float
-f400 = ofBits binary64 0x4079_0000_0000_0000
-
-f400-is : f400 ≡ round binary64 false 400 1
-unfolding ofBits round
-f400-is = refl
-
--- s held to -240..400
+-- s held to ladderMin..ladderMax
 abbrev pub held : Float → Float
-held s = cond (lt s (neg f240)) (neg f240) (cond (lt f400 s) f400 s)
+held s = cond (lt s ladderMin) ladderMin (cond (lt ladderMax s) ladderMax s)
 
--- the floor of a negative z, of which t is the whole part of -z: -t, or one less where that cuts something off; 1920 is added
-abbrev pub floorBelow : ℕ → Float → ℕ
-floorBelow t x = cond (eq (ofInt binary64 (pos t)) x) (1920 - t) (1920 - (t + 1))
+-- the least whole number not below x, held to 0..top; NaN gives 0
+unfoldable pub ceilHeld : ℕ → Float → ℕ
+ceilHeld top nan = 0
+ceilHeld top (inf true) = 0
+ceilHeld top (inf false) = top
+ceilHeld top (fin true m e) = 0
+ceilHeld top (fin false m e) = min ((m * up e + (down e - 1)) / down e) top
 
--- floor(z) + 1920, for z from -1920 to 3200
+-- R-5: i + rungsBelow, where i is the least whole number not below z, for z from -rungsBelow to rungsAbove. Below 0 that is what the floor of -z says
 unfoldable pub rung : Float → ℕ
-rung z = cond (le f0 z) (1920 + floorHeld 3200 z) (floorBelow (floorHeld 1920 (neg z)) (neg z))
+rung z = rungsBelow + ceilHeld rungsAbove z - floorHeld rungsBelow (neg z)
 
--- T[j] times the literal of 10^(q - 9), rounded once, for the rung i + 1920 = 80 (q + 24) + j
+-- T[j] times the literal of 10^(q - 9), rounded once, for the rung i + rungsBelow = 80 (q + zeroTen - 9) + j
 unfoldable pub rungValue : ℕ → Float
 rungValue r = mul binary64 (ofInt binary64 (pos (rootOf (r % 80)))) (tenTo (r / 80))
 
--- i = floor(8s): 8 × s is exact. A NaN s gives NaN
+-- R-5: the smallest eighth not below s, so i is the least whole number not below 8s: 8 × s is exact. A NaN s gives NaN
 unfoldable pub ladder : Float → Float
 ladder s = cond (isNan s) nan (rungValue (rung (mul binary64 f8 (held s))))

@@ -1,4 +1,5 @@
 pub mod Numbers
+pub mod Layout
 pub mod Ring
 pub mod Bank
 pub mod Stores
@@ -6,6 +7,8 @@ pub mod Refusals
 pub mod Calls
 pub mod Readings
 pub mod Ladder
+pub mod LadderBefore
+pub mod Upward
 pub mod Windows
 pub mod Gate
 pub mod GateStores
@@ -20,6 +23,8 @@ pub mod SameAnswers
 pub mod Reach
 pub mod Demand3
 pub mod Sets
+pub mod Anew
+pub mod Remembered
 pub mod Exports
 pub mod Segments
 pub mod Louder

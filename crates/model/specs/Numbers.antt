@@ -2,17 +2,10 @@
 -- A literal stands as the bit pattern that the compiler gives it; the line below each says which decimal that is, rounded to binary64.
 use mathlib.Core.Path.{_≡_, refl}
 use mathlib.Core.Bool.{true, false, cond}
-use lib.Ieee.{Float, binary64, neg, add, sub, mul, lt, isNan, ofBits, round}
+use lib.Ieee.{Float, binary64, add, sub, mul, lt, isNan, ofBits, round}
 
 abbrev pub f0 : Float
 f0 = ofBits binary64 0
-
-abbrev pub f140 : Float
-f140 = ofBits binary64 0x4061_8000_0000_0000
-
-f140-is : f140 ≡ round binary64 false 140 1
-unfolding ofBits round
-f140-is = refl
 
 abbrev pub half : Float
 half = ofBits binary64 0x3fe0_0000_0000_0000
@@ -51,18 +44,6 @@ epsilon = ofBits binary64 0x3bc7_9ca1_0c92_4223
 epsilon-is : epsilon ≡ round binary64 false 1 100000000000000000000
 unfolding ofBits round
 epsilon-is = refl
-
--- 1e-14
-abbrev pub freshPower : Float
-freshPower = ofBits binary64 0x3d06_849b_86a1_2b9b
-
-freshPower-is : freshPower ≡ round binary64 false 1 100000000000000
-unfolding ofBits round
-freshPower-is = refl
-
--- -140
-abbrev pub histMin : Float
-histMin = neg f140
 
 -- power_linear = widened power + 1e-20. A power is an f32 and the same number as an f64, so widening it changes nothing here
 abbrev pub powerLinear : Float → Float

@@ -9,6 +9,7 @@ use lib.ListN.{getD}
 use lib.Ieee.{Float, inf}
 use Rattle.laws.specs.Lists.{part}
 use Rattle.model.specs.Numbers.{f0, fmin}
+use Rattle.model.specs.Layout.{ringLen, channelLen, blockChannels}
 use Rattle.model.specs.Ring.{since}
 use Rattle.model.specs.Bank.{FloorBank, channel, effectiveFloor}
 use Rattle.model.specs.Stores.{base, bankOf}
@@ -24,8 +25,8 @@ use Rattle.model.specs.declared.FloorsReading.the-variants as F
 -- the effective floor is worked out from the stored usable, block floor and seed
 unfoldable pub effectiveAt : FloorBank → ℕ → Float
 effectiveAt b k =
-    effectiveFloor (getD (b .usable) k f0) (getD (b .blockFloor) (k / 32) f0) (since (channel b k)) (getD (b .seeds) (k / 32) 0)
-    (getD (b .seedSum) (k / 32) f0)
+    effectiveFloor (getD (b .usable) k f0) (getD (b .blockFloor) (k / blockChannels) f0) (since (channel b k)) (getD (b .seeds) (k / blockChannels) 0)
+    (getD (b .seedSum) (k / blockChannels) f0)
 
 abbrev pub rawAt : FloorBank → ℕ → Float
 rawAt b k = getD (b .raw) k f0
@@ -99,10 +100,10 @@ floorsReading u f k = floorsReadingOf (readRefusal u f k) (floorsAt (bankOf u f)
 
 -- where the part starts and how long it is: the ring, or the empty part at the start where the reading is refused
 unfoldable pub ringStart : List ℕ → List Float → ℕ → ℕ
-ringStart u f k = cond (eqb (readRefusal u f k) 0) (base (getD u 0 0) + 533 * k) 0
+ringStart u f k = cond (eqb (readRefusal u f k) 0) (base (getD u 0 0) + channelLen * k) 0
 
 unfoldable pub ringLength : List ℕ → List Float → ℕ → ℕ
-ringLength u f k = cond (eqb (readRefusal u f k) 0) 250 0
+ringLength u f k = cond (eqb (readRefusal u f k) 0) ringLen 0
 
 -- r is the very part of b that starts at a and is w long: the same block of memory, a entries of two bytes on, and what stands there
 pub record VeryPart (b r : RefT (List ℕ)) (a w : ℕ) : Type 0 where

@@ -7,6 +7,7 @@ use lib.ListN.{length, getD}
 use lib.Ieee.{Float, isNan}
 use Rattle.laws.specs.Tests.{anyBelow, within, differ, first}
 use Rattle.model.specs.Numbers.{f0}
+use Rattle.model.specs.Layout.{blockChannels}
 use Rattle.model.specs.Stores.{bankLen, bankFLen, bankOf, soundBank}
 
 -- 1: n outside 1..512 at making; 2: a store's length isn't the one for n
@@ -25,11 +26,11 @@ bankRefusal u f =
 
 -- the channels of block i of n
 abbrev pub blockSize : ℕ → ℕ → ℕ
-blockSize n i = min 32 (n - 32 * i)
+blockSize n i = min blockChannels (n - blockChannels * i)
 
 -- a NaN dB in a block of two or more channels
 unfoldable pub garbled : ℕ → List Float → Bool
-garbled n db = anyBelow n (λ k. isNan (getD db k f0) && ltb 1 (blockSize n (k / 32)))
+garbled n db = anyBelow n (λ k. isNan (getD db k f0) && ltb 1 (blockSize n (k / blockChannels)))
 
 -- a bank update: the store, then 5 if a hop slice isn't n long, then 6 on a slow hop
 unfoldable pub updateRefusal : List ℕ → List Float → List Float → List Float → ℕ

@@ -7,7 +7,8 @@ use lib.ListN.{getD, set, take}
 use lib.IntN.{pos}
 use lib.Ieee.{Float, nan, inf, fin, up, down, binary64, add, mul, div, ofInt}
 use Rattle.laws.specs.Lists.{one}
-use Rattle.model.specs.Numbers.{f140, half, histMin}
+use Rattle.model.specs.Numbers.{half}
+use Rattle.model.specs.Layout.{depth, histMin, lastBin}
 
 -- ---- bin and centre
 
@@ -19,17 +20,17 @@ floorHeld top (inf false) = top
 floorHeld top (fin true m e) = 0
 floorHeld top (fin false m e) = min (m * up e / down e) top
 
--- the bin of p: y = p + 140 rounded, z = y / 0.5, then the floor of z held to 0..279
+-- the bin of p: y = p + depth rounded, z = y / 0.5, then the floor of z held to 0..lastBin
 unfoldable pub binOf : Float → ℕ
-binOf p = floorHeld 279 (div binary64 (add binary64 p f140) half)
+binOf p = floorHeld lastBin (div binary64 (add binary64 p depth) half)
 
--- the centre of bin b: -140 + (b + 0.5) × 0.5
+-- the centre of bin b: histMin + (b + 0.5) × 0.5
 abbrev pub centreOf : ℕ → Float
 centreOf b = add binary64 histMin (mul binary64 (add binary64 (ofInt binary64 (pos b)) half) half)
 
 -- ---- the ring of a channel
 
--- a ring of the last 250 bins, a count for each bin, next place, filled, and lead: entries of bin 0 taken before the block's first seed
+-- a ring of the last ringLen bins, a count for each bin, next place, filled, and lead: entries of bin 0 taken before the block's first seed
 -- push and still in the ring
 pub record ChannelFloor : Type 0 where
   pub ring : List ℕ
@@ -38,7 +39,7 @@ pub record ChannelFloor : Type 0 where
   pub filled : ℕ
   pub lead : ℕ
 
--- bin b is counted, and counted no more (R-7: on a sound channel a count stays within 0 to 250, and one that falls is at least 1)
+-- bin b is counted, and counted no more (R-7: on a sound channel a count stays within 0 to ringLen, and one that falls is at least 1)
 abbrev pub counted : List ℕ → ℕ → List ℕ
 counted cs b = set cs b (getD cs b 0 + 1)
 
@@ -107,7 +108,7 @@ sorted (x ∷ l) = insert x (sorted l)
 unfoldable pub smallest : ℕ → List ℕ → ℕ
 smallest k l = getD (sorted l) (k - 1) 0
 
--- -140 if r = 0, else the centre of the ceil(r/4)-th smallest of l
+-- histMin if r = 0, else the centre of the ceil(r/4)-th smallest of l
 abbrev pub quartileOf : ℕ → List ℕ → Float
 quartileOf zero l = histMin
 quartileOf (suc r) l = centreOf (smallest ((suc r + 3) / 4) l)

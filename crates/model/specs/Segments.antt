@@ -6,6 +6,7 @@ use mathlib.Core.Bool.{Bool, true, not, cond, _&&_}
 use mathlib.Core.List.{List, [], _∷_, map}
 use Prim.Native.Nat.{ℕ, _*_, _%_}
 use lib.Dec.{eqb}
+use Rattle.model.specs.Layout.{decimationHops}
 use Rattle.model.specs.Gate.{among}
 use Rattle.model.specs.GateCalls.{absent}
 use Rattle.model.specs.Demand3.{Call, Stores, answer, left, risesOf, arguments, leftBy, bankUpdates, gateUpdates, Making, made, Made, SameFloors, Enough, Same}
@@ -89,7 +90,7 @@ EachSegment =
     -- any two runs, in which segment i is changed by its own calls alone, and with the others anything is done
     → (xs ys : List Event) → isKept i xs ≡ true → isKept i ys ≡ true
     -- whose numbers of accepted updates of segment i are as demand 3 asks
-    → bankUpdates (made k p) (own i xs) % 15 ≡ bankUpdates (made k q) (own i ys) % 15
+    → bankUpdates (made k p) (own i xs) % decimationHops ≡ bankUpdates (made k q) (own i ys) % decimationHops
     → ((m : ℕ) → among m (k .lengths) ≡ true
     → gateUpdates (made k p) (own i xs) % (2 * m) ≡ gateUpdates (made k q) (own i ys) % (2 * m))
     -- any further runs that agree in what is called on segment i: the ticks and what is done to the others may differ

@@ -7,12 +7,13 @@ use lib.ListN.{getD}
 use lib.Ieee.{Float}
 use Rattle.laws.specs.Lists.{part, tab, joined, occ}
 use Rattle.laws.specs.Tests.{allBelow}
+use Rattle.model.specs.Layout.{bins, ringLen, atCounts, atNext, atFilled, atLead, channelLen, decimationHops}
 use Rattle.model.specs.Ring.{ChannelFloor, entries}
 use Rattle.model.specs.Bank.{FloorBank, blocks, channel}
 
 -- ---- the bank's stores, written
 
--- for each channel 250 ring, 280 counts, next, filled, lead
+-- for each channel ringLen ring, bins counts, next, filled, lead: channelLen in all
 abbrev pub chanU : ChannelFloor → List ℕ
 chanU c = c .ring ++ (c .counts ++ (c .next ∷ c .filled ∷ c .lead ∷ []))
 
@@ -29,11 +30,11 @@ bankF b = b .raw ++ (b .usable ++ (b .smooth ++ (b .rise ++ (b .blockFloor ++ b 
 abbrev pub chanOf : List ℕ → ChannelFloor
 chanOf l =
     record {
-      ring = part 0 250 l;
-      counts = part 250 280 l;
-      next = getD l 530 0;
-      filled = getD l 531 0;
-      lead = getD l 532 0;
+      ring = part 0 ringLen l;
+      counts = part atCounts bins l;
+      next = getD l atNext 0;
+      filled = getD l atFilled 0;
+      lead = getD l atLead 0;
     }
 
 -- where the channels begin
@@ -41,7 +42,7 @@ abbrev pub base : ℕ → ℕ
 base n = 3 + blocks n
 
 abbrev pub chanPart : ℕ → List ℕ → ℕ → List ℕ
-chanPart n u k = part (base n + 533 * k) 533 u
+chanPart n u k = part (base n + channelLen * k) channelLen u
 
 unfoldable pub bankOf : List ℕ → List Float → FloorBank
 bankOf u f =
@@ -64,32 +65,32 @@ bankOf u f =
 -- ---- lengths
 
 abbrev pub bankLen : ℕ → ℕ
-bankLen n = base n + 533 * n
+bankLen n = base n + channelLen * n
 
 abbrev pub bankFLen : ℕ → ℕ
 bankFLen n = 4 * n + blocks n + blocks n
 
 -- ---- sound
 
--- next below 250, filled <= 250, next = filled while filled < 250, lead <= count of bin 0
+-- next below ringLen, filled <= ringLen, next = filled while filled < ringLen, lead <= count of bin 0
 abbrev pub soundFields : ℕ → ℕ → ℕ → ℕ → Bool
-soundFields next filled lead zeros = ltb next 250 && leb filled 250 && cond (ltb filled 250) (eqb next filled) true && leb lead zeros
+soundFields next filled lead zeros = ltb next ringLen && leb filled ringLen && cond (ltb filled ringLen) (eqb next filled) true && leb lead zeros
 
--- ring entries below 280
+-- ring entries below bins
 unfoldable pub soundRing : ChannelFloor → Bool
-soundRing c = allBelow 250 (λ i. ltb (getD (c .ring) i 0) 280)
+soundRing c = allBelow ringLen (λ i. ltb (getD (c .ring) i 0) bins)
 
 -- counts equal to a recount of the filled places
 unfoldable pub soundCounts : ChannelFloor → Bool
-soundCounts c = allBelow 280 (λ b. eqb (getD (c .counts) b 0) (occ b (entries c)))
+soundCounts c = allBelow bins (λ b. eqb (getD (c .counts) b 0) (occ b (entries c)))
 
 unfoldable pub soundChannel : ChannelFloor → Bool
 soundChannel c = soundFields (c .next) (c .filled) (c .lead) (getD (c .counts) 0 0) && soundRing c && soundCounts c
 
--- phase below 15, started 0 or 1, seed counts <= 25, and each channel sound; any float is sound
+-- phase below decimationHops, started 0 or 1, seed counts <= 25, and each channel sound; any float is sound
 unfoldable pub soundBank : FloorBank → Bool
 soundBank b =
-    ltb (b .phase) 15
+    ltb (b .phase) decimationHops
     && leb (b .started) 1
     && allBelow (blocks (b .n)) (λ i. leb (getD (b .seeds) i 0) 25)
     && allBelow (b .n) (λ k. soundChannel (channel b k))

@@ -1,4 +1,5 @@
-// The types that answers have by name in document 01. Its definitions stand in specs/, section by section.
+// The types that answers have by name in document 01, and the layout in numbers. Its definitions stand in specs/, section by section.
+pub mod layout;
 
 // A reading is either a value or a refusal number.
 pub enum Reading {

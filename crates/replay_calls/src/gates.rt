@@ -159,7 +159,7 @@ fn replay_gate_hold(
     bank: &[u16],
     bank_f: &[f64],
     gate: &[u16],
-    gate_f: &[f64],
+    gate_f: &mut [f64],
     rise: &mut [u8],
     drop: &mut [u8],
 ) -> Replay {

@@ -4,19 +4,24 @@ use crate::list::after;
 use crate::list::index;
 use low_first::byte_at;
 use low_first::two_bytes;
+use model::layout::BLOCK_CHANNELS;
+use model::layout::BLOCK_REST;
+use model::layout::CHANNEL_LEN;
 use std::num::wrapping_add_u64;
 
 // The largest bank of the list has 33 channels.
 pub const MOST: usize = 33;
 
-pub const MOST_LEN: usize = 17594;
+const MOST_BLOCKS: usize = (MOST + BLOCK_REST) / BLOCK_CHANNELS;
 
-pub const MOST_F_LEN: usize = 136;
+pub const MOST_LEN: usize = 3 + MOST_BLOCKS + CHANNEL_LEN * MOST;
+
+pub const MOST_F_LEN: usize = 4 * MOST + 2 * MOST_BLOCKS;
 
 pub const GATE_LEN: usize = 30;
 
 // The largest gate has 3 channels and the lengths 1, 5 and 375; its store is lent one too long, too.
-pub const MOST_GATE_F_LEN: usize = 2308;
+pub const MOST_GATE_F_LEN: usize = 2314;
 
 // The records start behind the tables.
 const RECORDS: usize = 3072;
@@ -24,14 +29,14 @@ const RECORDS: usize = 3072;
 // How long the stores of a bank of n are.
 pub fn store_len(n: u8) -> usize {
     let n = index(n);
-    3 + (n + 31) / 32 + 533 * n
+    3 + (n + BLOCK_REST) / BLOCK_CHANNELS + CHANNEL_LEN * n
 }
 
 pub fn store_f_len(n: u8) -> usize
     ensures { λ r. ⌜ r < 1100 ⌝ }
 {
     let n = index(n);
-    4 * n + 2 * ((n + 31) / 32)
+    4 * n + 2 * ((n + BLOCK_REST) / BLOCK_CHANNELS)
 }
 
 // hop is where the hop stands that the bank heard last; n is the bank's; floats is how long the gate's f64 store is.

@@ -6,6 +6,7 @@ use Prim.Native.Nat.{ℕ, _+_, _-_, _%_, _≤_, _<_}
 use lib.Dec.{eqb}
 use lib.ListN.{length, getD, set}
 use Rattle.laws.specs.Lists.{one}
+use Rattle.model.specs.Layout.{bins, ringLen, atCounts, atNext, atLead, channelLen}
 use Rattle.model.specs.Ring.{ChannelFloor, counted, uncounted, oldest}
 
 -- a full ring's oldest goes; another ring has one entry more
@@ -26,14 +27,14 @@ entered c b r =
     record {
       ring = set (c .ring) (c .next) b;
       counts = counted (c .counts) b;
-      next = (c .next + 1) % 250;
+      next = (c .next + 1) % ringLen;
       filled = c .filled;
       lead = c .lead + r;
     }
 
 -- what a bin needs to enter
 pub record Roomy (l : List ℕ) : Type 0 where
-  pub long : length l ≡ 533
-  pub next-below : getD l 530 0 < 250
-  pub counts-small : (b : ℕ) → b < 280 → getD l (250 + b) 0 ≤ 250
-  pub lead-small : getD l 532 0 ≤ 250
+  pub long : length l ≡ channelLen
+  pub next-below : getD l atNext 0 < ringLen
+  pub counts-small : (b : ℕ) → b < bins → getD l (atCounts + b) 0 ≤ ringLen
+  pub lead-small : getD l atLead 0 ≤ ringLen

@@ -5,33 +5,32 @@ ghost use Prim.Native.Nat.{_+_, _-_, _%_, _<_, _≤_};
 ghost use lib.Dec.{eqb};
 ghost use lib.ListN.{length, getD};
 ghost use Rattle.laws.specs.Lists.{one};
+ghost use Rattle.model.specs.Layout.{bins, ringLen, atFilled, channelLen};
 ghost use Rattle.model.specs.Ring.{binOf, centreOf, oldest, pushIn, since};
 ghost use Rattle.model.specs.Stores.{chanU, chanOf};
 ghost use Rattle.model.specs.Sound.{Sound};
 ghost use Rattle.ring.specs.Push.{roomed, entered, Roomy};
+use model::layout::BINS_F64;
+use model::layout::COUNTS;
+use model::layout::FILLED;
+use model::layout::HIST_DEPTH_DB;
+use model::layout::HIST_MIN_DB;
+use model::layout::LAST_BIN;
+use model::layout::LEAD;
+use model::layout::NEXT;
+use model::layout::RING_LEN_U16;
 
-// A channel's 533 entries: 250 ring, 280 counts, next place, filled, lead.
-const RING_LEN: u16 = 250;
-
-const COUNTS: usize = 250;
-
-const NEXT: usize = 530;
-
-const FILLED: usize = 531;
-
-const LEAD: usize = 532;
-
-// 280 bins, 0.5 dB wide, from -140 dB on. The sum is rounded before it is divided: -0.5 and the f64 next below it both fall in bin 279.
+// The sum is rounded before it is divided: -0.5 and the f64 next below it both fall in the last bin.
 pub fn bin_index(p: f64) -> u16
     ensures { λ r. ⌜ r ≡ binOf p ⌝ }
 {
-    let y = p + 140.0;
+    let y = p + HIST_DEPTH_DB;
     let z = y / 0.5;
     if z >= 0.0 {
-        if z < 280.0 {
+        if z < BINS_F64 {
             std::num::truncating_f64_to_u64(z) as u16
         } else {
-            279
+            LAST_BIN
         }
     } else {
         0
@@ -41,14 +40,14 @@ pub fn bin_index(p: f64) -> u16
 pub fn bin_centre(b: u16) -> f64
     ensures { λ r. ⌜ r ≡ centreOf b ⌝ }
 {
-    -140.0 + ((b as f64) + 0.5) * 0.5
+    HIST_MIN_DB + ((b as f64) + 0.5) * 0.5
 }
 
 fn next_place(next: u16) -> u16
-    requires { ⌜ next < 250 ⌝ }
-    ensures { λ r. ⌜ r ≡ (next + 1) % 250 ⌝ }
+    requires { ⌜ next < ringLen ⌝ }
+    ensures { λ r. ⌜ r ≡ (next + 1) % ringLen ⌝ }
 {
-    (next + 1) % RING_LEN
+    (next + 1) % RING_LEN_U16
 }
 
 // The lead that is left once `evicted` has gone. Lead may be 0 when an entry of bin 0 leaves:
@@ -76,8 +75,8 @@ fn lead_rise(bin: u16, quiet: bool) -> u16
 
 // The bin at the next place: the oldest, once the ring is full.
 fn oldest_bin(chan: &[u16]) -> u16
-    requires { ⌜ (length (now chan) ≡ 533) × Sound 250 280 (chanOf (now chan)) ⌝ }
-    ensures { λ r. ⌜ (r ≡ oldest (chanOf (now (chan .entry)))) × (r < 280) ⌝ }
+    requires { ⌜ (length (now chan) ≡ channelLen) × Sound ringLen bins (chanOf (now chan)) ⌝ }
+    ensures { λ r. ⌜ (r ≡ oldest (chanOf (now (chan .entry)))) × (r < bins) ⌝ }
 {
     let next = laws::wide(chan[NEXT]);
     chan[next]
@@ -85,8 +84,8 @@ fn oldest_bin(chan: &[u16]) -> u16
 
 // The oldest of a full ring is counted no more.
 fn evict(chan: &mut [u16])
-    requires { ⌜ (length (now chan) ≡ 533) × Sound 250 280 (chanOf (now chan)) ⌝ }
-    requires { ⌜ getD (now chan) 531 0 ≡ 250 ⌝ }
+    requires { ⌜ (length (now chan) ≡ channelLen) × Sound ringLen bins (chanOf (now chan)) ⌝ }
+    requires { ⌜ getD (now chan) atFilled 0 ≡ ringLen ⌝ }
     ensures { λ _. ⌜ now (chan .exit) ≡ chanU (roomed true (chanOf (now (chan .entry)))) ⌝ }
 {
     let oldest = oldest_bin(chan);
@@ -98,11 +97,11 @@ fn evict(chan: &mut [u16])
 }
 
 fn make_room(chan: &mut [u16])
-    requires { ⌜ (length (now chan) ≡ 533) × Sound 250 280 (chanOf (now chan)) ⌝ }
-    ensures { λ _. ⌜ now (chan .exit) ≡ chanU (roomed (eqb (getD (now (chan .entry)) 531 0) 250) (chanOf (now (chan .entry)))) ⌝ }
+    requires { ⌜ (length (now chan) ≡ channelLen) × Sound ringLen bins (chanOf (now chan)) ⌝ }
+    ensures { λ _. ⌜ now (chan .exit) ≡ chanU (roomed (eqb (getD (now (chan .entry)) atFilled 0) ringLen) (chanOf (now (chan .entry)))) ⌝ }
 {
     let filled = chan[FILLED];
-    if filled == RING_LEN {
+    if filled == RING_LEN_U16 {
         evict(chan);
     } else {
         chan[FILLED] = filled + 1;
@@ -112,7 +111,7 @@ fn make_room(chan: &mut [u16])
 // The bin goes to the next place and is counted.
 fn enter(chan: &mut [u16], bin: u16, rise: u16)
     requires { ⌜ Roomy (now chan) ⌝ }
-    requires { ⌜ (bin < 280) × (rise ≤ 1) ⌝ }
+    requires { ⌜ (bin < bins) × (rise ≤ 1) ⌝ }
     ensures { λ _. ⌜ now (chan .exit) ≡ chanU (entered (chanOf (now (chan .entry))) bin rise) ⌝ }
 {
     let next = chan[NEXT];
@@ -128,9 +127,9 @@ fn enter(chan: &mut [u16], bin: u16, rise: u16)
 
 // One entry into a channel's ring, as a slow hop makes it; `quiet` says that the channel's block has no seed push.
 pub fn push(chan: &mut [u16], bin: u16, quiet: bool)
-    requires { ⌜ (length (now chan) ≡ 533) × Sound 250 280 (chanOf (now chan)) ⌝ }
-    requires { ⌜ bin < 280 ⌝ }
-    ensures { λ _. ⌜ now (chan .exit) ≡ chanU (pushIn 250 quiet (chanOf (now (chan .entry))) bin) ⌝ }
+    requires { ⌜ (length (now chan) ≡ channelLen) × Sound ringLen bins (chanOf (now chan)) ⌝ }
+    requires { ⌜ bin < bins ⌝ }
+    ensures { λ _. ⌜ now (chan .exit) ≡ chanU (pushIn ringLen quiet (chanOf (now (chan .entry))) bin) ⌝ }
 {
     make_room(chan);
     enter(chan, bin, lead_rise(bin, quiet));
@@ -138,7 +137,7 @@ pub fn push(chan: &mut [u16], bin: u16, quiet: bool)
 
 // Entries taken since the leading silence of the channel's block.
 pub fn since(chan: &[u16]) -> u16
-    requires { ⌜ (length (now chan) ≡ 533) × Sound 250 280 (chanOf (now chan)) ⌝ }
+    requires { ⌜ (length (now chan) ≡ channelLen) × Sound ringLen bins (chanOf (now chan)) ⌝ }
     ensures { λ r. ⌜ r ≡ since (chanOf (now (chan .entry))) ⌝ }
 {
     chan[FILLED] - chan[LEAD]

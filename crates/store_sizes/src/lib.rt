@@ -7,18 +7,21 @@ ghost use Rattle.model.specs.Bank.{blocks as blocksOf};
 ghost use Rattle.model.specs.Stores.{base as baseOf};
 ghost use Rattle.model.specs.Calls.{bankLenFor, bankFLenFor};
 ghost use Rattle.store_sizes.specs.Checks.{sizeRefusal};
+use model::layout::BLOCK_CHANNELS;
+use model::layout::BLOCK_REST;
+use model::layout::CHANNEL_LEN;
 
 pub fn blocks(n: usize) -> usize
     requires { ⌜ n ≤ 512 ⌝ }
-    ensures { λ r. ⌜ (r ≡ blocksOf n) × (r ≤ 16) ⌝ }
+    ensures { λ r. ⌜ (r ≡ blocksOf n) × (r ≤ blocksOf 512) ⌝ }
 {
-    (n + 31) / 32
+    (n + BLOCK_REST) / BLOCK_CHANNELS
 }
 
 // Where the channels begin.
 pub fn base(n: usize) -> usize
     requires { ⌜ n ≤ 512 ⌝ }
-    ensures { λ r. ⌜ (r ≡ baseOf n) × (r ≤ 19) ⌝ }
+    ensures { λ r. ⌜ (r ≡ baseOf n) × (r ≤ baseOf 512) ⌝ }
 {
     3 + blocks(n)
 }
@@ -39,7 +42,7 @@ pub fn bank_len(n: usize) -> usize
     if !in_band(n) {
         return 0;
     }
-    base(n) + 533 * n
+    base(n) + CHANNEL_LEN * n
 }
 
 // How many f64 a bank of n channels takes; 0 for an n that no bank has.

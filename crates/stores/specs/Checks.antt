@@ -5,12 +5,13 @@ use Prim.Native.Nat.{ℕ, _+_}
 use lib.Dec.{ltb, leb}
 use lib.ListN.{getD}
 use Rattle.laws.specs.Tests.{allBelow}
+use Rattle.model.specs.Layout.{decimationHops}
 use Rattle.model.specs.Bank.{blocks}
 use Rattle.model.specs.Stores.{chanOf, chanPart, soundChannel}
 
--- phase below 15, started 0 or 1
+-- phase below decimationHops, started 0 or 1
 abbrev pub soundHead : ℕ → ℕ → Bool
-soundHead phase started = ltb phase 15 && leb started 1
+soundHead phase started = ltb phase decimationHops && leb started 1
 
 unfoldable pub soundSeeds : List ℕ → ℕ → Bool
 soundSeeds u n = allBelow (blocks n) (λ i. leb (getD u (3 + i) 0) 25)

@@ -6,11 +6,13 @@ ghost use lib.ListN.{length};
 ghost use Rattle.model.specs.Stores.{bankLen};
 ghost use Rattle.model.specs.Refusals.{bankRefusal, updateRefusal, readRefusal};
 ghost use Rattle.stores.specs.Checks.{soundHead, soundSeeds, soundChannels, soundStore};
+use model::layout::CHANNEL_LEN;
+use model::layout::DECIMATION_HOPS;
 
 fn head_sound(phase: u16, started: u16) -> bool
     ensures { λ r. ⌜ r ≡ soundHead phase started ⌝ }
 {
-    if phase < 15 {
+    if phase < DECIMATION_HOPS {
         return started <= 1;
     }
     false
@@ -38,8 +40,8 @@ fn channels_sound(bank: &[u16], n: usize) -> bool
     let start = store_sizes::base(n);
     let mut k: usize = 0;
     while k < n {
-        let a = start + 533 * k;
-        let e = a + 533;
+        let a = start + CHANNEL_LEN * k;
+        let e = a + CHANNEL_LEN;
         if !bank_sound::channel_sound(&bank[a..e]) {
             return false;
         }

@@ -10,7 +10,7 @@ use Rattle.model.specs.GateCalls.{GateHop, gateUpdate, gateHold}
 use Rattle.watch_recording.specs.declared.Step.{Step}
 use Rattle.watch_recording.specs.declared.Step.the-variants.{End as Step·End, Cut as Step·Cut, BadFlag as Step·BadFlag, Refused as Step·Refused, Hop}
 use Rattle.watch_hear.specs.declared.Heard.{Heard}
-use Rattle.watch_hear.specs.declared.Heard.the-variants.{End, Cut, BadFlag, Refused}
+use Rattle.watch_hear.specs.declared.Heard.the-variants.{End, Cut, BadFlag, Refused, Taken}
 use Rattle.watch_hear.specs.Judged.{Gated, Judged, gateJudged, beside, after, judged}
 use Rattle.watch_hear.specs.Heard.{answerOf, answered, heardOf}
 
@@ -18,11 +18,14 @@ pub refusal : (size r : ℕ) → (r ≡ 0 → ⊥) → Refused r ≡ answerOf si
 refusal size zero z = absurd (z refl)
 refusal size (suc r) z = refl
 
+pub accepted : (size r : ℕ) → r ≡ 0 → Taken size ≡ answerOf size r
+accepted size r z = ap (answerOf size) (sym z)
+
 module _ (bu : List ℕ) (bf : List Float) (gu : List ℕ) (gf : List Float) (h : GateHop) (rise drop : List ℕ) where
-  pub held : (b : Bool) (x : ℕ) (rise′ drop′ : List ℕ) → b ≡ true → (x, rise′, drop′) ≡ gateHold bu bf gu gf rise drop
-      → (x, gu, gf, rise′, drop′) ≡ gateJudged b bu bf gu gf h rise drop
+  pub held : (b : Bool) (x : ℕ) (f′ : List Float) (rise′ drop′ : List ℕ) → b ≡ true → (x, f′, rise′, drop′) ≡ gateHold bu bf gu gf rise drop
+      → (x, gu, f′, rise′, drop′) ≡ gateJudged b bu bf gu gf h rise drop
   unfolding gateJudged
-  held b x rise′ drop′ t e = rw t (ap (λ (a : ℕ × List ℕ × List ℕ). (a .0, gu, gf, a .1, a .2)) e)
+  held b x f′ rise′ drop′ t e = rw t (ap (λ (a : ℕ × List Float × List ℕ × List ℕ). (a .0, gu, a .1, a .2, a .3)) e)
 
   pub stepped : (b : Bool) (a : Gated) → b ≡ false → a ≡ gateUpdate bu bf gu gf h rise drop → a ≡ gateJudged b bu bf gu gf h rise drop
   unfolding gateJudged

@@ -11,9 +11,9 @@ use Rattle.model.specs.GateCalls.{GateHop, gateUpdate, gateHold}
 abbrev pub Gated : Type 0
 Gated = ℕ × List ℕ × List Float × List ℕ × List ℕ
 
--- with static heard it holds, and its stores stay
+-- with static heard it holds, and its u16 store stays
 unfoldable pub gateJudged : Bool → List ℕ → List Float → List ℕ → List Float → GateHop → List ℕ → List ℕ → Gated
-gateJudged true bu bf gu gf h rise drop = let a = gateHold bu bf gu gf rise drop in (a .0, gu, gf, a .1, a .2)
+gateJudged true bu bf gu gf h rise drop = let a = gateHold bu bf gu gf rise drop in (a .0, gu, a .1, a .2, a .3)
 gateJudged false bu bf gu gf h rise drop = gateUpdate bu bf gu gf h rise drop
 
 -- the answer, the bank's two stores, the gate's, rise and drop

@@ -1,14 +1,21 @@
 // The stores that a recording or a log needs, on the stack, and their parts.
 use laws::wide;
+use model::layout::BLOCK_CHANNELS;
+use model::layout::BLOCK_REST;
+use model::layout::CHANNEL_LEN;
 use watch_notices::faults;
 use watch_notices::head;
 use watch_stores::make;
 use watch_words::Settings;
 
 // A bank of 512 channels.
-const MOST_BANK: usize = 273427;
+const MOST: usize = 512;
 
-const MOST_BANK_F: usize = 2080;
+const MOST_BLOCKS: usize = (MOST + BLOCK_REST) / BLOCK_CHANNELS;
+
+const MOST_BANK: usize = 3 + MOST_BLOCKS + CHANNEL_LEN * MOST;
+
+const MOST_BANK_F: usize = 4 * MOST + 2 * MOST_BLOCKS;
 
 const GATE: usize = 30;
 

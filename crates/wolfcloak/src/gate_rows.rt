@@ -46,11 +46,11 @@ pub extern "C" fn wolfcloak_gate_hold(
     bank: &[u16],
     bank_f: &[f64],
     gate: &[u16],
-    gate_f: &[f64],
+    gate_f: &mut [f64],
     rise: &mut [u8],
     drop: &mut [u8],
 ) -> u16
-    ensures { λ r. ⌜ (r, now (rise .exit), now (drop .exit)) ≡ gateHold (now (bank .entry)) (now («bank_f» .entry)) (now (gate .entry)) (now («gate_f» .entry)) (now (rise .entry)) (now (drop .entry)) ⌝ }
+    ensures { λ r. ⌜ (r, now («gate_f» .exit), now (rise .exit), now (drop .exit)) ≡ gateHold (now (bank .entry)) (now («bank_f» .entry)) (now (gate .entry)) (now («gate_f» .entry)) (now (rise .entry)) (now (drop .entry)) ⌝ }
 {
     gate::gate_hold(bank, bank_f, gate, gate_f, rise, drop)
 }

@@ -6,6 +6,7 @@ use Prim.Native.Nat.{ℕ, _+_, _*_}
 use lib.ListN.{getD}
 use lib.Ieee.{Float}
 use borrow.Author.Tests.{ne-eqb}
+use Rattle.model.specs.Layout.{ringLen, channelLen}
 use Rattle.model.specs.Stores.{base}
 use Rattle.model.specs.Refusals.{readRefusal}
 use Rattle.model.specs.Readings.{ringStart, ringLength}
@@ -20,7 +21,7 @@ module _ (u : List ℕ) (f : List Float) (k start len : ℕ) where
   unfolding ringAnswered
   none r e h = rw (e, ne-eqb (readRefusal u f k) 0 (λ q. h (e ∙ q)))
 
-  some : (a : ℕ) → readRefusal u f k ≡ 0 → a ≡ base (getD u 0 0) + 533 * k → (0, a, 250) ≡ ringAnswered u f k start len
+  some : (a : ℕ) → readRefusal u f k ≡ 0 → a ≡ base (getD u 0 0) + channelLen * k → (0, a, ringLen) ≡ ringAnswered u f k start len
   unfolding ringAnswered ringStart ringLength
   some a h e = rw (h, e)
 

@@ -10,6 +10,7 @@ use borrow.Author.Needs.{needs}
 use Rattle.laws.specs.Lists.{splice, tab}
 use Rattle.laws.proofs.Lists.{width}
 use Rattle.laws.proofs.Tabs.{fill-next}
+use Rattle.model.specs.Layout.{channelLen}
 use Rattle.model.specs.Ring.{rawFloor}
 use Rattle.model.specs.Stores.{chanOf, chanPart, base}
 use Rattle.bank_stages.proofs.Loops.{Fits, fits, lent, raw-done}
@@ -80,10 +81,10 @@ loop-again : tie.Need-loop-again Inv-loop μ-loop
 loop-again c =
     let l = c .before .before .before in
     let s = l .before .before .before in
-    let at = base (s .args .n) + 533 * l .loop .k in (
+    let at = base (s .args .n) + channelLen * l .loop .k in (
       omega arith,
       fill-next 0 (l .loop .k) (l .loop .k) (s .args .bank-f .now) (l .loop .bank-f) (rawOf (s .args .bank .now) (s .args .n)) (c .raw-floor .result) (omega arith)
-          (omega (arith, fit s .long-f)) (l .loop .inv .1) (rw (width at 533) at (c .raw-floor .ensures)),
+          (omega (arith, fit s .long-f)) (l .loop .inv .1) (rw (width at channelLen) at (c .raw-floor .ensures)),
       length-set (l .loop .bank-f) _ _ ∙ l .loop .inv .2,
     )
 

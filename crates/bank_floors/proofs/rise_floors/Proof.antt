@@ -8,6 +8,7 @@ use borrow.Author.Needs.{needs}
 use Rattle.laws.specs.Lists.{splice, tab}
 use Rattle.laws.proofs.Lists.{width}
 use Rattle.laws.proofs.Tabs.{fill-begins, fill-next, length-tab}
+use Rattle.model.specs.Layout.{channelLen, blockChannels}
 use Rattle.model.specs.Ring.{since}
 use Rattle.model.specs.Bank.{riseFloor}
 use Rattle.model.specs.Stores.{base}
@@ -141,11 +142,11 @@ loop-again c =
     let n = s .args .n in
     let k = l .loop .k in
     let h = q .before .before .loop-test .taken in
-    let m = rise-reads u f (s .pre .0) n (s .pre .1) (l .loop .bank-f) (tab k (riseAtOf u f n)) k (k / 32) h (length-tab k (riseAtOf u f n)) (omega arith) (l .loop .inv .1) in
-    let e = rw (width (base n + 533 * k) 533) at (q .since .ensures) in (
+    let m = rise-reads u f (s .pre .0) n (s .pre .1) (l .loop .bank-f) (tab k (riseAtOf u f n)) k (k / blockChannels) h (length-tab k (riseAtOf u f n)) (omega arith) (l .loop .inv .1) in
+    let e = rw (width (base n + channelLen * k) channelLen) at (q .since .ensures) in (
       omega arith,
       fill-next (3 * n) k (3 * n + k) f (l .loop .bank-f) (riseAtOf u f n) (c .rise-floor .result) refl (omega (arith, fit s .long-f)) (l .loop .inv .1)
-          (c .rise-floor .ensures ∙ (λ i. riseFloor (m .0 i) (m .1 i) (e i) (getD u (3 + k / 32) 0) (m .2 i))),
+          (c .rise-floor .ensures ∙ (λ i. riseFloor (m .0 i) (m .1 i) (e i) (getD u (3 + k / blockChannels) 0) (m .2 i))),
       length-set (l .loop .bank-f) _ _ ∙ l .loop .inv .2,
     )
 

@@ -10,6 +10,7 @@ use borrow.Author.Needs.{needs}
 use Rattle.laws.specs.Lists.{splice, tab}
 use Rattle.laws.proofs.Lists.{width}
 use Rattle.laws.proofs.Tabs.{fill-begins, fill-next}
+use Rattle.model.specs.Layout.{channelLen}
 use Rattle.model.specs.Ring.{usableFloor}
 use Rattle.model.specs.Stores.{chanOf, chanPart, base}
 use Rattle.bank_stages.proofs.Loops.{Fits, fits, lent, usable-done, raw-at}
@@ -74,7 +75,7 @@ usable-floor-requires c κs =
     let f = s .args .bank-f .now in
     let h = c .before .before .loop-test .taken in (
       lent u f (s .args .n) (fit s) (l .loop .k) h,
-      rw (width (base (s .args .n) + 533 * l .loop .k) 533) (raw-at u f (s .pre .0 .0) (s .args .n) (s .pre .0 .1) (s .pre .1) (l .loop .k) (l .loop .bank-f) (tab (l .loop .k) (usableOf u (s .args .n))) (l .loop .k) nan h (l .loop .inv .1)),
+      rw (width (base (s .args .n) + channelLen * l .loop .k) channelLen) (raw-at u f (s .pre .0 .0) (s .args .n) (s .pre .0 .1) (s .pre .1) (l .loop .k) (l .loop .bank-f) (tab (l .loop .k) (usableOf u (s .args .n))) (l .loop .k) nan h (l .loop .inv .1)),
     )
 
 add-bank-f : tie.Need-add-bank-f Inv-loop μ-loop
@@ -96,10 +97,10 @@ loop-again : tie.Need-loop-again Inv-loop μ-loop
 loop-again c =
     let l = c .before .before .before .before in
     let s = l .before .before .before in
-    let at = base (s .args .n) + 533 * l .loop .k in (
+    let at = base (s .args .n) + channelLen * l .loop .k in (
       omega arith,
       fill-next (s .args .n) (l .loop .k) (s .args .n + l .loop .k) (s .args .bank-f .now) (l .loop .bank-f) (usableOf (s .args .bank .now) (s .args .n)) (c .usable-floor .result) refl
-          (omega (arith, fit s .long-f)) (l .loop .inv .1) (rw (width at 533) at (c .usable-floor .ensures)),
+          (omega (arith, fit s .long-f)) (l .loop .inv .1) (rw (width at channelLen) at (c .usable-floor .ensures)),
       length-set (l .loop .bank-f) _ _ ∙ l .loop .inv .2,
     )
 

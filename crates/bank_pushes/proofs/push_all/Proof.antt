@@ -7,13 +7,14 @@ use lib.ListN.{length}
 use borrow.Author.Needs.{needs}
 use Rattle.laws.specs.Lists.{splice, tab, joined}
 use Rattle.laws.proofs.Tabs.{parts-begin}
+use Rattle.model.specs.Layout.{channelLen}
 use Rattle.model.specs.Stores.{base}
 use Rattle.bank_stages.proofs.Loops.{Fits, fits, pushedOf, turn-asks, turn-done, push-done}
 use Rattle.bank_pushes.proofs.push_all.Statement.{statement}
 use Rattle.bank_pushes.proofs.push_all.Tie as tie
 
 abbrev Inv-loop : tie.InvT-loop
-Inv-loop bank₀ bank-f power-db n a k₀ bank k = (k ≤ n) × (bank ≡ splice a (533 * k) bank₀ (joined (tab k (pushedOf bank₀ power-db n)))) × (length bank ≡ length bank₀)
+Inv-loop bank₀ bank-f power-db n a k₀ bank k = (k ≤ n) × (bank ≡ splice a (channelLen * k) bank₀ (joined (tab k (pushedOf bank₀ power-db n)))) × (length bank ≡ length bank₀)
 
 abbrev μ-loop : tie.MeasureT-loop
 μ-loop bank₀ bank-f power-db n a k₀ bank k = n - k
@@ -31,7 +32,7 @@ loop-holds : tie.Need-loop-holds Inv-loop μ-loop
 loop-holds c =
     let s = c .before .before .before in
     let db = s .args .power-db .now in
-    (search needs, parts-begin (base (length db)) 533 (s .args .bank .now) (pushedOf (s .args .bank .now) db (length db)), refl)
+    (search needs, parts-begin (base (length db)) channelLen (s .args .bank .now) (pushedOf (s .args .bank .now) db (length db)), refl)
 
 add-quiet : tie.Need-add-quiet Inv-loop μ-loop
 add-quiet c = search needs
@@ -87,7 +88,7 @@ returns c =
     let u = s .args .bank .now in
     let db = s .args .power-db .now in
     push-done u (s .args .bank-f .now) (s .pre .0) (length db) (s .pre .1) db refl (l .loop .bank)
-    (l .loop .inv .1 ∙ ap (λ (k : ℕ). splice (base (length db)) (533 * k) u (joined (tab k (pushedOf u db (length db))))) (le-antisymm (l .loop .inv .0) (c .loop-test .left)))
+    (l .loop .inv .1 ∙ ap (λ (k : ℕ). splice (base (length db)) (channelLen * k) u (joined (tab k (pushedOf u db (length db))))) (le-antisymm (l .loop .inv .0) (c .loop-test .left)))
 
 pub push-all-spec : {M : Type 1} → statement M
 push-all-spec =

@@ -2,6 +2,7 @@
 use native.Mathlib.Omega.{arith}
 use borrow.Author.Needs.{needs}
 use Rattle.laws.proofs.Lists.{width, length-part}
+use Rattle.model.specs.Layout.{channelLen}
 use Rattle.model.proofs.Bins.{bin-below}
 use Rattle.bank_pushes.proofs.push_at.Statement.{statement}
 use Rattle.bank_pushes.proofs.push_at.Tie as tie
@@ -28,7 +29,7 @@ push-requires : tie.Need-push-requires
 push-requires c κs =
     let s = c .before .before .before in
     let b = c .before .bin-index .ensures in
-    rw (width (s .args .a) 533) ((length-part (s .args .a) 533 (s .args .bank .now) (s .pre .0), s .pre .1), omega (arith, b, bin-below (s .args .p)))
+    rw (width (s .args .a) channelLen) ((length-part (s .args .a) channelLen (s .args .bank .now) (s .pre .0), s .pre .1), omega (arith, b, bin-below (s .args .p)))
 
 same-length : tie.Need-same-length
 same-length c = search needs
@@ -37,7 +38,7 @@ returns : tie.Need-returns
 returns c =
     let u = c .before .before in
     let s = u .before .before .before .before in
-    simp (width (s .args .a) 533, u .push .ensures, u .before .before .bin-index .ensures)
+    simp (width (s .args .a) channelLen, u .push .ensures, u .before .before .bin-index .ensures)
 
 pub push-at-spec : {M : Type 1} → statement M
 push-at-spec =

@@ -3,13 +3,14 @@ use native.Mathlib.Omega.{arith}
 use lib.ListN.{getD}
 use borrow.Author.Needs.{needs}
 use borrow.Author.Tests.{eq-eqb, ne-eqb}
+use Rattle.model.specs.Layout.{bins}
 use Rattle.bank_sound.specs.Fails.{ofOneBin}
 use Rattle.bank_sound.proofs.Checks.{entry-below}
 use Rattle.bank_sound.proofs.of_one_bin.Statement.{statement}
 use Rattle.bank_sound.proofs.of_one_bin.Tie as tie
 
 -- the first entry is a bin
-first : (c : tie.Start) → getD (c .args .chan .now) 0 0 < 280
+first : (c : tie.Start) → getD (c .args .chan .now) 0 0 < bins
 first c = entry-below (c .args .chan .now) 0 (c .pre .1) (omega arith)
 
 shared-slice-read-first : tie.Need-shared-slice-read-first

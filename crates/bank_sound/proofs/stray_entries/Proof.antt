@@ -2,16 +2,17 @@ use mathlib.Core.Path.{_≡_, refl, ap, _∙_}
 use Prim.Native.Nat.{ℕ, _≤_, _-_, _+_}
 use native.Mathlib.Omega.{arith}
 use borrow.Author.Needs.{needs}
+use Rattle.model.specs.Layout.{ringLen}
 use Rattle.bank_sound.specs.Fails.{fails, isBin, strayEntries}
 use Rattle.bank_sound.proofs.Checks.{count-more, fails-le}
 use Rattle.bank_sound.proofs.stray_entries.Statement.{statement}
 use Rattle.bank_sound.proofs.stray_entries.Tie as tie
 
 abbrev Inv-loop : tie.InvT-loop
-Inv-loop chan stray₀ i₀ stray i = (i ≤ 250) × (stray ≡ fails i (isBin chan))
+Inv-loop chan stray₀ i₀ stray i = (i ≤ ringLen) × (stray ≡ fails i (isBin chan))
 
 abbrev μ-loop : tie.MeasureT-loop
-μ-loop chan stray₀ i₀ stray i = 250 - i
+μ-loop chan stray₀ i₀ stray i = ringLen - i
 
 more : (c : tie.After-one-if-no-bin Inv-loop μ-loop)
     → c .before .before .before .loop .stray + c .one-if-no-bin .result ≡ fails (c .before .before .before .loop .i + 1) (isBin (c .before .before .before .before .before .args .chan .now))
@@ -46,7 +47,7 @@ loop-again c = (omega arith, more c)
 returns : tie.Need-returns Inv-loop μ-loop
 unfolding strayEntries
 returns c = let l = c .before in
-    let e : l .loop .i ≡ 250 = omega arith in
+    let e : l .loop .i ≡ ringLen = omega arith in
     l .loop .inv .1 ∙ ap (λ (k : ℕ). fails k (isBin (l .before .before .args .chan .now))) e
 
 pub stray-entries-spec : {M : Type 1} → statement M

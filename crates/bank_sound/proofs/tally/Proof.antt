@@ -6,21 +6,22 @@ use lib.Seq.{length-take-le}
 use borrow.Author.Needs.{needs}
 use Rattle.laws.specs.Lists.{occ}
 use Rattle.laws.proofs.Counting.{occ-le}
+use Rattle.model.specs.Layout.{bins}
 use Rattle.bank_sound.proofs.Checks.{entry-below, tally-more, tally-one}
 use Rattle.bank_sound.proofs.tally.Statement.{statement}
 use Rattle.bank_sound.proofs.tally.Tie as tie
 
 abbrev Inv-loop : tie.InvT-loop
-Inv-loop chan filled t₀ i₀ t i = (i ≤ filled) × (length t ≡ 280) × ((b : ℕ) → b < 280 → getD t b 0 ≡ occ b (take i chan))
+Inv-loop chan filled t₀ i₀ t i = (i ≤ filled) × (length t ≡ bins) × ((b : ℕ) → b < bins → getD t b 0 ≡ occ b (take i chan))
 
 abbrev μ-loop : tie.MeasureT-loop
 μ-loop chan filled t₀ i₀ t i = filled - i
 
 -- the first entry is a bin, and the entry that a turn counts
-first : (c : tie.Start Inv-loop μ-loop) → getD (c .args .chan .now) 0 0 < 280
+first : (c : tie.Start Inv-loop μ-loop) → getD (c .args .chan .now) 0 0 < bins
 first c = entry-below (c .args .chan .now) 0 (c .pre .1) (omega arith)
 
-bin : (c : tie.In-loop Inv-loop μ-loop) → getD (c .before .before .before .before .before .args .chan .now) (c .before .loop .i) 0 < 280
+bin : (c : tie.In-loop Inv-loop μ-loop) → getD (c .before .before .before .before .before .args .chan .now) (c .before .loop .i) 0 < bins
 bin c = let s = c .before .before .before .before .before in
     entry-below (s .args .chan .now) (c .before .loop .i) (s .pre .1) (omega arith)
 
@@ -45,10 +46,10 @@ array-write-t c = first (c .before .before .before .before)
 returns : tie.Need-returns Inv-loop μ-loop
 returns c = let o = c .before .before in
     let s = o .before .before in
-    tally-one 280 (s .args .filled) (s .args .chan .now) (first s) (omega arith) (sym (o .of-one-bin .ensures) ∙ c .before .if1 .taken)
+    tally-one bins (s .args .filled) (s .args .chan .now) (first s) (omega arith) (sym (o .of-one-bin .ensures) ∙ c .before .if1 .taken)
 
 loop-holds : tie.Need-loop-holds Inv-loop μ-loop
-loop-holds c = (search needs, search needs, (λ b h. getD-replicate 280 b 0 0 h))
+loop-holds c = (search needs, search needs, (λ b h. getD-replicate bins b 0 0 h))
 
 mul-b : tie.Need-mul-b Inv-loop μ-loop
 mul-b c = search needs
@@ -86,7 +87,7 @@ loop-less c = search needs
 loop-again : tie.Need-loop-again Inv-loop μ-loop
 loop-again c = let l = c .before .before in
     let ch = l .before .before .before .before .args .chan .now in
-    (omega arith, simp length-set (l .loop .inv .1), tally-more 280 ch (l .loop .t) (l .loop .i) (l .loop .inv .1) (omega arith) (bin (c .before)) (l .loop .inv .2))
+    (omega arith, simp length-set (l .loop .inv .1), tally-more bins ch (l .loop .t) (l .loop .i) (l .loop .inv .1) (omega arith) (bin (c .before)) (l .loop .inv .2))
 
 returns-2 : tie.Need-returns-2 Inv-loop μ-loop
 returns-2 c = let l = c .before in

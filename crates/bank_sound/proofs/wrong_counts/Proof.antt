@@ -2,16 +2,17 @@ use mathlib.Core.Path.{_≡_, refl, ap, _∙_}
 use Prim.Native.Nat.{ℕ, _≤_, _-_, _+_}
 use native.Mathlib.Omega.{arith}
 use borrow.Author.Needs.{needs}
+use Rattle.model.specs.Layout.{bins}
 use Rattle.bank_sound.specs.Fails.{fails, isTallied, wrongCounts}
 use Rattle.bank_sound.proofs.Checks.{count-more, fails-le}
 use Rattle.bank_sound.proofs.wrong_counts.Statement.{statement}
 use Rattle.bank_sound.proofs.wrong_counts.Tie as tie
 
 abbrev Inv-loop : tie.InvT-loop
-Inv-loop chan t wrong₀ b₀ wrong b = (b ≤ 280) × (wrong ≡ fails b (isTallied chan t))
+Inv-loop chan t wrong₀ b₀ wrong b = (b ≤ bins) × (wrong ≡ fails b (isTallied chan t))
 
 abbrev μ-loop : tie.MeasureT-loop
-μ-loop chan t wrong₀ b₀ wrong b = 280 - b
+μ-loop chan t wrong₀ b₀ wrong b = bins - b
 
 more : (c : tie.After-one-if-differs Inv-loop μ-loop)
     → c .before .before .before .before .loop .wrong + c .one-if-differs .result ≡ fails (c .before .before .before .before .loop .b + 1) (isTallied (c .before .before .before .before .before .before .args .chan .now) (c .before .before .before .before .before .before .args .t .now))
@@ -55,7 +56,7 @@ loop-again c = (omega arith, more c)
 returns : tie.Need-returns Inv-loop μ-loop
 unfolding wrongCounts
 returns c = let l = c .before in
-    let e : l .loop .b ≡ 280 = omega arith in
+    let e : l .loop .b ≡ bins = omega arith in
     l .loop .inv .1 ∙ ap (λ (k : ℕ). fails k (isTallied (l .before .before .args .chan .now) (l .before .before .args .t .now))) e
 
 pub wrong-counts-spec : {M : Type 1} → statement M

@@ -4,6 +4,7 @@ use Prim.Native.Nat.{ℕ, _+_, _*_}
 use native.Mathlib.Omega.{arith}
 use Rattle.laws.specs.Lists.{part}
 use Rattle.laws.proofs.Lists.{width, length-part}
+use Rattle.model.specs.Layout.{channelLen}
 use Rattle.model.specs.Ring.{since}
 use Rattle.model.specs.Stores.{chanOf, base}
 use Rattle.channel_readings.proofs.Places.{effective-read, block-below}
@@ -48,8 +49,8 @@ since-requires : tie.Need-since-requires
 since-requires c κs = let w = c .before in
     let s = w .before .before .before .before in
     let u = s .args .bank .now in
-    let a = base (w .wide .result) + 533 * s .args .k in
-    rw (width a 533) (length-part a 533 u (omega arith), rw (w .wide .ensures) (s .pre .sound))
+    let a = base (w .wide .result) + channelLen * s .args .k in
+    rw (width a channelLen) (length-part a channelLen u (omega arith), rw (w .wide .ensures) (s .pre .sound))
 
 add-effective-floor : tie.Need-add-effective-floor
 add-effective-floor c = search needs
@@ -106,10 +107,10 @@ returns c = let q = c .before .before .before .before .before in
     let w = q .before .before in
     let s = w .before .before .before .before in
     let u = s .args .bank .now in
-    let a = base (w .wide .result) + 533 * s .args .k in
+    let a = base (w .wide .result) + channelLen * s .args .k in
     c .effective-floor .ensures
     ∙ effective-read u (s .args .bank-f .now) (s .args .k) (s .pre) (w .wide .result) (q .since .result) (w .wide .ensures)
-    (q .since .ensures ∙ ap (λ (v : ℕ). since (chanOf (part a v u))) (width a 533))
+    (q .since .ensures ∙ ap (λ (v : ℕ). since (chanOf (part a v u))) (width a channelLen))
 
 pub effective-at-spec : {M : Type 1} → statement M
 effective-at-spec =

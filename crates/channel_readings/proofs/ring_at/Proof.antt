@@ -4,6 +4,7 @@ use denote.Ref.{now}
 use Prim.Native.Nat.{ℕ}
 use Rattle.laws.specs.Lists.{part}
 use Rattle.laws.proofs.Lists.{width}
+use Rattle.model.specs.Layout.{ringLen}
 use borrow.Author.Needs.{needs}
 use Rattle.channel_readings.proofs.ring_at.Statement.{statement}
 use Rattle.channel_readings.proofs.ring_at.Tie as tie
@@ -28,7 +29,7 @@ returns c = let s = c .before in
     record {
       memory = search needs;
       offset = search needs;
-      holds = ap (λ (w : ℕ). part (s .args .a) w (now (s .args .bank))) (width (s .args .a) 250);
+      holds = ap (λ (w : ℕ). part (s .args .a) w (now (s .args .bank))) (width (s .args .a) ringLen);
     }
 
 pub ring-at-spec : {M : Type 1} → statement M

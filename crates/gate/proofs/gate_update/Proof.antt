@@ -5,9 +5,12 @@ use Prim.Native.Nat.{ℕ}
 use lib.ListN.{length, getD}
 use lib.Ieee.{Float}
 use Rattle.model.specs.Stores.{bankOf}
+use Rattle.model.specs.Gate.{gateStep, updateStep}
+use Rattle.model.specs.GateStores.{gateOf}
 use Rattle.model.specs.GateCalls.{GateHop, gateUpdateRefusal}
 use Rattle.gate_cursors.specs.Paired.{Paired}
-use Rattle.gate.proofs.Calls.{update-asked, update-refused, updated, after-n, after-paired, after-marked}
+use Rattle.gate_step.specs.Steps.{Holds}
+use Rattle.gate.proofs.Calls.{update-asked, update-refused, updated, left-n, left-paired, left-marked, hop-good, hop-n, update-good, update-n, update-holds}
 use borrow.Author.Needs.{needs}
 use Rattle.gate.proofs.gate_update.Statement.{statement}
 use Rattle.gate.proofs.gate_update.Tie as tie
@@ -41,6 +44,22 @@ asked : (e : tie.Else1)
 asked e =
     update-asked (BU e) (BF e) (GU e) (GF e) (length (hop (e .before) .db)) (length (hop (e .before) .power)) (length (start (e .before) .args .rise .now)) (length (start (e .before) .args .drop .now)) (none e)
 
+-- once the pairs are up to date: the step before that, and the way past the test
+abbrev at-step : tie.After-refresh → tie.After-step
+at-step r = r .before .before .before .before .before .before .before
+
+abbrev at-else : tie.After-refresh → tie.Else1
+at-else r = at-step r .before .before .before
+
+-- the stores then hold the gate that the update leaves
+holds : (r : tie.After-refresh)
+    → Holds
+    (updateStep (gateOf (GU (at-else r)) (GF (at-else r))) (bankOf (BU (at-else r)) (BF (at-else r))) (hop (at-else r .before) .db) (hop (at-else r .before) .power))
+    (at-step r .step .last .0) (r .refresh .last .1 .1 .1 .0)
+holds r = let e = at-else r in
+    let h = hop (e .before) in
+    update-holds (BU e) (BF e) (GU e) (GF e) (asked e .0) (h .db) (h .power) (at-step r .step .last .0) (at-step r .step .last .1 .0) (r .refresh .last .1 .1 .1 .0) (at-step r .step .ensures) (r .refresh .ensures)
+
 gate-update-refusal-requires : tie.Need-gate-update-refusal-requires
 gate-update-refusal-requires c κs = search needs
 
@@ -59,12 +78,24 @@ step-requires : tie.Need-step-requires
 step-requires c κs = let a = asked (c .before .before) in
     (a .0 .gate, a .1, a .2)
 
-judge-requires : tie.Need-judge-requires
-judge-requires c κs = let w = c .before .before .before .before .before .before .before .before in
+refresh-requires : tie.Need-refresh-requires
+refresh-requires c κs = let w = c .before .before .before .before .before .before in
     let e = w .before .before .before in
     let h = hop (e .before) in
-    let n = after-n (BU e) (BF e) (GU e) (GF e) (h .db) (h .power) (asked e .0) (w .step .last .0) (w .step .last .1 .0) (w .step .ensures) in (
-      after-paired (BU e) (BF e) (GU e) (GF e) (h .db) (h .power) (asked e .0) (w .step .last .0) (w .step .last .1 .0) (w .step .ensures),
+    let p = asked e .0 in
+    left-paired (BU e) (BF e) (GU e) (GF e) p (gateStep (gateOf (GU e) (GF e)) (h .db) (h .power)) (hop-good (BU e) (BF e) (GU e) (GF e) p (h .db) (h .power))
+    (hop-n (BU e) (BF e) (GU e) (GF e) p (h .db) (h .power)) (w .step .last .0) (w .step .last .1 .0) (w .step .ensures)
+
+judge-requires : tie.Need-judge-requires
+judge-requires c κs = let r = c .before .before .before .before .before .before in
+    let e = at-else r in
+    let h = hop (e .before) in
+    let p = asked e .0 in
+    let H = updateStep (gateOf (GU e) (GF e)) (bankOf (BU e) (BF e)) (h .db) (h .power) in
+    let good = update-good (BU e) (BF e) (GU e) (GF e) p (h .db) (h .power) in
+    let same = update-n (BU e) (BF e) (GU e) (GF e) p (h .db) (h .power) in
+    let n = left-n (BU e) (BF e) (GU e) (GF e) p H good same (at-step r .step .last .0) (r .refresh .last .1 .1 .1 .0) (holds r) in (
+      left-paired (BU e) (BF e) (GU e) (GF e) p H good same (at-step r .step .last .0) (r .refresh .last .1 .1 .1 .0) (holds r),
       asked e .3 ∙ sym n,
       asked e .4 ∙ sym n,
     )
@@ -83,11 +114,15 @@ same-length-6 c = search needs
 
 returns-2 : tie.Need-returns-2
 returns-2 c = let j = c .before .before .before .before in
-    let w = j .before .before .before .before .before .before .before .before .before in
-    let e = w .before .before .before in
+    let r = j .before .before .before .before .before .before .before in
+    let e = at-else r in
     let h = hop (e .before) in
-    updated (BU e) (BF e) (GU e) (GF e) h (start (e .before) .args .rise .now) (start (e .before) .args .drop .now) (w .step .last .0) (w .step .last .1 .0) _ _ (none e) (w .step .ensures)
-    (after-marked (BU e) (BF e) (GU e) (GF e) (h .db) (h .power) (asked e .0) (w .step .last .0) (w .step .last .1 .0) (w .step .ensures) (bankOf (BU e) (BF e)) _ _ (j .judge .ensures))
+    let p = asked e .0 in
+    updated (BU e) (BF e) (GU e) (GF e) h (start (e .before) .args .rise .now) (start (e .before) .args .drop .now) (at-step r .step .last .0)
+    (r .refresh .last .1 .1 .1 .0) _ _ (none e) (holds r)
+    (left-marked (BU e) (BF e) (GU e) (GF e) p (updateStep (gateOf (GU e) (GF e)) (bankOf (BU e) (BF e)) (h .db) (h .power))
+    (update-good (BU e) (BF e) (GU e) (GF e) p (h .db) (h .power)) (update-n (BU e) (BF e) (GU e) (GF e) p (h .db) (h .power)) (at-step r .step .last .0)
+    (r .refresh .last .1 .1 .1 .0) (holds r) (bankOf (BU e) (BF e)) _ _ (j .judge .ensures))
 
 pub gate-update-spec : {M : Type 1} → statement M
 gate-update-spec =
@@ -98,6 +133,7 @@ gate-update-spec =
     same-length-2
     returns
     step-requires
+    refresh-requires
     judge-requires
     same-length-3
     same-length-4

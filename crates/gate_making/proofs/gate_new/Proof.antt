@@ -6,10 +6,8 @@ use lib.ListN.{length}
 use lib.Ieee.{Float}
 use lib.IntN.{ℤ}
 use borrow.Author.Needs.{needs}
-use Rattle.model.specs.Numbers.{f0}
 use Rattle.model.specs.Gate.{distinct}
 use Rattle.model.specs.GateCalls.{gateMakeRefusal}
-use Rattle.bank_making.proofs.Makes.{fill-all}
 use Rattle.gate_lengths.specs.Makes.{freshU}
 use Rattle.gate_making.proofs.Levels.{three-read, stored-read}
 use Rattle.gate_making.proofs.Makes.{Fits, fit, fresh-u, fresh-f, new-refused, new-made}
@@ -64,8 +62,8 @@ fresh-u-requires : tie.Need-fresh-u-requires
 fresh-u-requires c κs = let z = sized (c .before .before .before .before) in
     (z .long, z .good)
 
-fill-requires : tie.Need-fill-requires
-fill-requires c κs = search needs
+fresh-f-requires : tie.Need-fresh-f-requires
+fresh-f-requires c κs = omega (arith, sized (c .before .before .before .before .before .before .before .before) .long-f)
 
 same-length : tie.Need-same-length
 same-length c = search needs
@@ -85,8 +83,7 @@ returns-2 c = let f = c .before .before in
     let d = stored-read (s .args .early) (s .fits .early) _ (t .stored3 .ensures) in
     ap₂ (λ (x : List ℕ) (y : List Float). (0, x, y))
     (u .fresh-u .ensures ∙ (λ i. freshU (s .args .n) (a i) (b i) (d i) (distinct [] l)) ∙ fresh-u (s .args .n) (s .args .on) (s .args .off) (s .args .early) l)
-    (f .fill .ensures
-    ∙ fill-all (s .args .gate-f .now) f0
+    (f .fresh-f .ensures
     ∙ fresh-f (s .args .n) (s .args .on) (s .args .off) (s .args .early) l (length (s .args .gate-f .now)) (sized e .long-f))
     ∙ new-made (s .args .gate .now) (s .args .gate-f .now) (s .args .n) (s .args .on) (s .args .off) (s .args .early) l (none e)
 
@@ -101,7 +98,7 @@ gate-new-spec =
     stored-requires-2
     stored-requires-3
     fresh-u-requires
-    fill-requires
+    fresh-f-requires
     same-length
     same-length-2
     returns-2)

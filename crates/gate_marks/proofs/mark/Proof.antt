@@ -1,6 +1,6 @@
 -- `gate_marks::mark` meets its contract: the first k marks are written. Assumes nothing.
 use mathlib.Core.Path.{_≡_, sym, ap, _∙_}
-use mathlib.Core.Bool.{_||_}
+use mathlib.Core.Bool.{Bool, _||_}
 use mathlib.Core.List.{List}
 use Prim.Native.Nat.{ℕ, _-_, _<_}
 use native.Mathlib.Omega.{arith}
@@ -16,14 +16,14 @@ use Rattle.laws.proofs.Fills.{Filled, begins, turns, done}
 use Rattle.channel_readings.proofs.Places.{from-ready}
 use Rattle.gate_cursors.proofs.Lengths.{smooth-within}
 use Rattle.model.proofs.GoodGates.{n-of, started-of}
-use Rattle.gate_marks.proofs.Marks.{drop-is, rises-marked, drops-marked}
+use Rattle.gate_marks.proofs.Marks.{early-is, drop-is, rises-marked, drops-marked}
 use borrow.Author.Needs.{needs}
 use Rattle.gate_marks.proofs.mark.Statement.{statement}
 use Rattle.gate_marks.proofs.mark.Tie as tie
 
 -- the marks of channel k
 abbrev riseOf : List ℕ → List Float → List ℕ → List Float → ℕ → ℕ
-riseOf bu bf gu gf k = one (earlyRise (gateOf gu gf) (bankOf bu bf) k || windowRise (gateOf gu gf) (bankOf bu bf) k)
+riseOf bu bf gu gf k = one (earlyRise (gateOf gu gf) (bankOf bu bf) k || windowRise (gateOf gu gf) k)
 
 abbrev dropOf : List ℕ → List Float → List ℕ → List Float → ℕ → ℕ
 dropOf bu bf gu gf k = one (dropAt (gateOf gu gf) (bankOf bu bf) k)
@@ -51,7 +51,7 @@ effective-at-requires c κs = let s = start (c .before) in
 
 rise-at-requires : tie.Need-rise-at-requires Inv-loop μ-loop
 rise-at-requires c κs = let s = start (c .before .before) in
-    (s .pre .0 .0, below (c .before), c .effective-at .ensures)
+    (s .pre .0 .0 .gate, below (c .before))
 
 cast-rise : tie.Need-cast-rise Inv-loop μ-loop
 cast-rise c = search needs
@@ -96,7 +96,11 @@ loop-again c = let r = c .before .before .before in
     let gu = s .args .gate .now in
     let gf = s .args .gate-f .now in (
       turns (s .args .rise .now) (riseOf bu bf gu gf) (l .loop .k) (l .loop .rise) (boolByte (r .rise-at .result)) (l .loop .inv .0) (omega arith)
-          (flag (r .rise-at .result) ∙ ap one (r .rise-at .ensures)),
+          (flag (r .rise-at .result)
+          ∙ ap one
+          (r .rise-at .ensures
+          ∙ ap (λ (b : Bool). b || windowRise (gateOf gu gf) (l .loop .k))
+          (early-is gu gf (bankOf bu bf) (l .loop .k) (s .pre .0 .0 .gate) (below i) (e .effective-at .result) (e .effective-at .ensures)))),
       turns (s .args .drop .now) (dropOf bu bf gu gf) (l .loop .k) (l .loop .drop) (boolByte (c .drop-at .result)) (l .loop .inv .1) (omega arith)
           (flag (c .drop-at .result) ∙ ap one (c .drop-at .ensures ∙ drop-is gu gf (bankOf bu bf) (l .loop .k) (s .pre .0 .0 .gate) (below i) (e .effective-at .result) (e .effective-at .ensures))),
     )

@@ -1,13 +1,11 @@
--- `gate_marks::rise_at` meets its contract: early rise, or else window rise. Assumes nothing.
-use mathlib.Core.Path.{_≡_, sym, ap, _∙_}
+-- `gate_marks::rise_at` meets its contract: early rise, or else window rise with the remembered threshold. Assumes nothing.
+use mathlib.Core.Path.{sym, ap, _∙_}
 use mathlib.Core.Bool.{Bool, _||_}
-use native.Mathlib.Omega.{arith}
-use Rattle.model.specs.Stores.{bankOf}
-use Rattle.model.specs.Gate.{earlyRise, windowRise}
+use Prim.Native.Nat.{ℕ, _-_}
+use lib.ListN.{length}
+use Rattle.model.specs.Gate.{windowRise}
 use Rattle.model.specs.GateStores.{gateOf}
-use Rattle.channel_readings.proofs.Places.{from-ready}
-use Rattle.gate_cursors.proofs.Lengths.{smooth-within}
-use Rattle.gate_marks.proofs.Marks.{early-is, window-is}
+use Rattle.gate_marks.proofs.Marks.{threshold-is, window-is}
 use borrow.Author.Needs.{needs}
 use Rattle.gate_marks.proofs.rise_at.Statement.{statement}
 use Rattle.gate_marks.proofs.rise_at.Tie as tie
@@ -19,54 +17,45 @@ mul-early-rise : tie.Need-mul-early-rise
 mul-early-rise c = search needs
 
 shared-slice-read-early-rise-2 : tie.Need-shared-slice-read-early-rise-2
-shared-slice-read-early-rise-2 c = let s = c .before .before .before .before .before .before in
-    omega (arith, smooth-within (s .args .gate .now) (s .args .gate-f .now) (s .pre .0 .gate), s .pre .1)
+shared-slice-read-early-rise-2 c = search needs
 
 early-rise-requires : tie.Need-early-rise-requires
 early-rise-requires c κs = search needs
 
-abbrev start : tie.After-early-rise → tie.Start
-start c = c .before .before .before .before .before .before .before
-
--- what the first call says
-early : (c : tie.After-early-rise)
-    → c .early-rise .result
-    ≡ earlyRise (gateOf (start c .args .gate .now) (start c .args .gate-f .now)) (bankOf (start c .args .bank .now) (start c .args .bank-f .now)) (start c .args .k)
-early c = let s = start c in
-    c .early-rise .ensures
-    ∙ early-is (s .args .gate .now) (s .args .gate-f .now) (bankOf (s .args .bank .now) (s .args .bank-f .now)) (s .args .k) (s .pre .0 .gate) (s .pre .1) (s .args .effective) (s .pre .2)
-
 returns : tie.Need-returns
-returns c = let s = start (c .before) in
-    ap (λ (b : Bool). b || windowRise (gateOf (s .args .gate .now) (s .args .gate-f .now)) (bankOf (s .args .bank .now) (s .args .bank-f .now)) (s .args .k))
-    (sym (c .if1 .taken) ∙ early (c .before))
+returns c = let s = c .before .before .before .before .before .before in
+    ap (λ (b : Bool). b || windowRise (gateOf (s .args .gate .now) (s .args .gate-f .now)) (s .args .k)) (sym (c .if1 .taken) ∙ c .before .early-rise .ensures)
 
-rise-at-requires : tie.Need-rise-at-requires
-rise-at-requires c κs = let s = start (c .before) in
-    from-ready (s .args .bank .now) (s .args .bank-f .now) (s .args .k) (s .pre .0 .bank) (omega (arith, s .pre .1, s .pre .0 .same))
+shared-slice-read-wide : tie.Need-shared-slice-read-wide
+shared-slice-read-wide c = search needs
 
-shared-slice-read-level : tie.Need-shared-slice-read-level
-shared-slice-read-level c = search needs
+wide-requires : tie.Need-wide-requires
+wide-requires c κs = search needs
 
-level-requires : tie.Need-level-requires
-level-requires c κs = search needs
+sub-thresholds : tie.Need-sub-thresholds
+sub-thresholds c = search needs
 
-ladder-requires : tie.Need-ladder-requires
-ladder-requires c κs = search needs
+add-window-rise : tie.Need-add-window-rise
+add-window-rise c = search needs
+
+mul-window-rise : tie.Need-mul-window-rise
+mul-window-rise c = search needs
+
+shared-slice-read-window-rise : tie.Need-shared-slice-read-window-rise
+shared-slice-read-window-rise c = search needs
 
 window-rise-requires : tie.Need-window-rise-requires
 window-rise-requires c κs = search needs
 
 returns-2 : tie.Need-returns-2
-returns-2 c = let v = c .before .before in
-    let r = v .before .before in
-    let e = r .before in
-    let s = start (e .before) in
-    let G = gateOf (s .args .gate .now) (s .args .gate-f .now) in
-    let B = bankOf (s .args .bank .now) (s .args .bank-f .now) in
+returns-2 c = let w = c .before .before in
+    let e = w .before .before in
+    let s = e .before .before .before .before .before .before in
+    let u = s .args .gate .now in
+    let f = s .args .gate-f .now in
     c .window-rise .ensures
-    ∙ window-is (s .args .gate .now) (s .args .gate-f .now) B (s .args .k) (s .pre .0 .gate) (s .pre .1) (r .rise-at .result) (v .level .result) (c .before .ladder .result) (r .rise-at .ensures) (v .level .ensures) (c .before .ladder .ensures)
-    ∙ ap (λ (b : Bool). b || windowRise G B (s .args .k)) (sym (e .if1 .left) ∙ early (e .before))
+    ∙ window-is u f (s .args .k) _ (threshold-is u f (s .args .k) (length f - w .wide .result) (s .pre .0) (s .pre .1) (ap (λ (n : ℕ). length f - n) (w .wide .ensures)))
+    ∙ ap (λ (b : Bool). b || windowRise (gateOf u f) (s .args .k)) (sym (e .if1 .left) ∙ e .before .early-rise .ensures)
 
 pub rise-at-spec : {M : Type 1} → statement M
 rise-at-spec =
@@ -77,9 +66,11 @@ rise-at-spec =
     shared-slice-read-early-rise-2
     early-rise-requires
     returns
-    rise-at-requires
-    shared-slice-read-level
-    level-requires
-    ladder-requires
+    shared-slice-read-wide
+    wide-requires
+    sub-thresholds
+    add-window-rise
+    mul-window-rise
+    shared-slice-read-window-rise
     window-rise-requires
     returns-2)

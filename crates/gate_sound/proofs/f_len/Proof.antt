@@ -71,11 +71,18 @@ loop-again c = let v = c .before in
     let w = l .before in
     (omega arith, start-more _ (mAt (start w .args .gate .now)) (l .loop .j) _ _ (l .loop .inv .1) (c .look-size .ensures .0 ∙ ap (lookSize (w .before .before .wide .result)) (v .wide3 .ensures)), omega arith)
 
+mul-result : tie.Need-mul-result Inv-loop μ-loop
+mul-result c = omega (arith, facts (c .before .before) .high)
+
+add-result : tie.Need-add-result Inv-loop μ-loop
+add-result c = omega (arith, facts (c .before .before) .high, facts (c .before .before) .few)
+
 returns : tie.Need-returns Inv-loop μ-loop
 returns c = let l = c .before in
     let w = l .before in
     let e : l .loop .j ≡ getD (start w .args .gate .now) 5 0 = omega arith in
-    l .loop .inv .1 ∙ ap₂ (λ (n j : ℕ). lookStart n (mAt (start w .args .gate .now)) j) (w .before .before .wide .ensures) e
+    let n = w .before .before .wide .ensures in
+    ap₂ (λ (x n : ℕ). x + 2 * n) (l .loop .inv .1 ∙ ap₂ (λ (n j : ℕ). lookStart n (mAt (start w .args .gate .now)) j) n e) n
 
 pub f-len-spec : {M : Type 1} → statement M
 f-len-spec =
@@ -98,4 +105,6 @@ f-len-spec =
     add-j
     loop-less
     loop-again
+    mul-result
+    add-result
     returns)

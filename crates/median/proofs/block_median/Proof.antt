@@ -4,6 +4,7 @@ use Prim.Native.Nat.{ℕ, _*_}
 use native.Mathlib.Omega.{arith}
 use lib.ListN.{take, drop}
 use Rattle.laws.proofs.Lists.{width}
+use Rattle.model.specs.Layout.{blockChannels}
 use Rattle.model.specs.Bank.{median}
 use Rattle.median.proofs.Ranks.{take-rest}
 use borrow.Author.Needs.{needs}
@@ -33,7 +34,7 @@ median-requires c κs = search needs
 
 returns : tie.Need-returns
 returns c = let s = c .before .before .before .before in
-    c .median .ensures ∙ ap median (take-rest (32 * s .args .i) 32 (s .args .l .now) (omega arith))
+    c .median .ensures ∙ ap median (take-rest (blockChannels * s .args .i) blockChannels (s .args .l .now) (omega arith))
 
 add-e : tie.Need-add-e
 add-e c = search needs
@@ -55,7 +56,7 @@ median-requires-2 c κs = search needs
 
 returns-2 : tie.Need-returns-2
 returns-2 c = let s = c .before .before .before .before in
-    c .median2 .ensures ∙ ap (λ (w : ℕ). median (take w (drop (32 * s .args .i) (s .args .l .now)))) (width (32 * s .args .i) 32)
+    c .median2 .ensures ∙ ap (λ (w : ℕ). median (take w (drop (blockChannels * s .args .i) (s .args .l .now)))) (width (blockChannels * s .args .i) blockChannels)
 
 pub block-median-spec : {M : Type 1} → statement M
 block-median-spec =

@@ -5,6 +5,7 @@ use native.Mathlib.Omega.{arith}
 use lib.ListN.{getD}
 use borrow.Author.Needs.{needs}
 use Rattle.laws.proofs.Lists.{getD-part}
+use Rattle.model.specs.Layout.{bins, atCounts}
 use Rattle.model.specs.Ring.{ChannelFloor, centreOf}
 use Rattle.model.specs.Stores.{chanOf}
 use Rattle.model.proofs.ChannelRank.{skip-within, nothing-left, some-left}
@@ -15,7 +16,7 @@ abbrev chan : tie.Start → ChannelFloor
 chan s = chanOf (s .args .chan .now)
 
 zeros : (s : tie.Start) → s .args .skip ≤ getD (chan s .counts) 0 0
-zeros s = omega (arith, s .pre .1, getD-part 250 280 (s .args .chan .now) 0 0 (omega arith))
+zeros s = omega (arith, s .pre .1, getD-part atCounts bins (s .args .chan .now) 0 0 (omega arith))
 
 shared-slice-read-wide : tie.Need-shared-slice-read-wide
 shared-slice-read-wide c = search needs

@@ -6,6 +6,7 @@ use Prim.Native.Nat.{ℕ, _+_, _-_, _<_}
 use native.Mathlib.Omega.{arith}
 use borrow.Author.Needs.{needs}
 use Rattle.laws.specs.Lists.{occ}
+use Rattle.model.specs.Layout.{bins, atCounts}
 use Rattle.model.specs.Ring.{entries}
 use Rattle.model.specs.Stores.{chanOf}
 use Rattle.model.proofs.ChannelRank.{Scan, scan-begins, scan-inside, scan-turns, scan-finds, count-at}
@@ -16,26 +17,26 @@ abbrev Inv-loop : tie.InvT-loop
 Inv-loop chan rank passed₀ b₀ passed b = Scan (entries (chanOf chan)) rank passed b
 
 abbrev μ-loop : tie.MeasureT-loop
-μ-loop chan rank passed₀ b₀ passed b = 280 - b
+μ-loop chan rank passed₀ b₀ passed b = bins - b
 
-abbrev bins : tie.Start Inv-loop μ-loop → List ℕ
-bins s = entries (chanOf (s .args .chan .now))
+abbrev heard : tie.Start Inv-loop μ-loop → List ℕ
+heard s = entries (chanOf (s .args .chan .now))
 
 -- a turn is at a bin of the histogram
-inside : (c : tie.At-loop Inv-loop μ-loop) → c .loop .b < 280
+inside : (c : tie.At-loop Inv-loop μ-loop) → c .loop .b < bins
 inside c =
     let s = c .before .before in
     scan-inside (s .pre .0 .1) (c .loop .inv) (s .pre .1 .1)
 
 -- what it reads is how often the bin occurs
-reads : (c : tie.After-wide Inv-loop μ-loop) → c .wide .result ≡ occ (c .before .before .loop .b) (bins (c .before .before .before .before))
+reads : (c : tie.After-wide Inv-loop μ-loop) → c .wide .result ≡ occ (c .before .before .loop .b) (heard (c .before .before .before .before))
 reads c =
     let l = c .before .before in
     let s = l .before .before in
     c .wide .ensures ∙ count-at (s .args .chan .now) (l .loop .b) (s .pre .0 .1) (inside l)
 
 loop-holds : tie.Need-loop-holds Inv-loop μ-loop
-loop-holds c = scan-begins (bins (c .before)) (c .before .args .rank) (c .before .pre .1 .0)
+loop-holds c = scan-begins (heard (c .before)) (c .before .args .rank) (c .before .pre .1 .0)
 
 add-wide : tie.Need-add-wide Inv-loop μ-loop
 add-wide c = omega (arith, inside c)
@@ -53,7 +54,7 @@ add-passed : tie.Need-add-passed Inv-loop μ-loop
 add-passed c =
     let l = c .before .before in
     let s = l .before .before in
-    omega (arith, l .loop .inv .short, s .pre .1 .1, s .pre .0 .1 .filled-within, c .wide .ensures, c .before .shared-slice-known2 .given (250 + l .loop .b))
+    omega (arith, l .loop .inv .short, s .pre .1 .1, s .pre .0 .1 .filled-within, c .wide .ensures, c .before .shared-slice-known2 .given (atCounts + l .loop .b))
 
 cast-result : tie.Need-cast-result Inv-loop μ-loop
 cast-result c = omega (arith, inside (c .before .before .before))

@@ -4,6 +4,7 @@ use Prim.Native.Nat.{ℕ}
 use native.Mathlib.Omega.{arith}
 use borrow.Author.Needs.{needs}
 use Rattle.laws.proofs.Lists.{getD-part}
+use Rattle.model.specs.Layout.{bins, atCounts}
 use Rattle.model.specs.Ring.{ChannelFloor, quartile}
 use Rattle.model.specs.Stores.{chanOf}
 use Rattle.model.proofs.ChannelRank.{no-lead, all-lead, some-lead}
@@ -35,7 +36,7 @@ wide-requires c κs = search needs
 quartile-requires : tie.Need-quartile-requires
 quartile-requires c κs =
     let s = c .before .before .before .before .before .before in
-    (s .pre .0, omega (arith, c .wide .ensures, s .pre .0 .1 .lead-within, getD-part 250 280 (s .args .chan .now) 0 0 (omega arith)))
+    (s .pre .0, omega (arith, c .wide .ensures, s .pre .0 .1 .lead-within, getD-part atCounts bins (s .args .chan .now) 0 0 (omega arith)))
 
 returns-3 : tie.Need-returns-3
 returns-3 c =

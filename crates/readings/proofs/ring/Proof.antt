@@ -6,6 +6,7 @@ use Prim.Native.Nat.{ℕ, _+_, _*_}
 use lib.ListN.{getD}
 use lib.Ieee.{Float}
 use borrow.Author.Tests.{eq-eqb, ne-eqb}
+use Rattle.model.specs.Layout.{ringLen, channelLen}
 use Rattle.model.specs.Stores.{base}
 use Rattle.model.specs.Refusals.{readRefusal}
 use Rattle.model.specs.Readings.{ringStart, ringLength, VeryPart}
@@ -25,7 +26,7 @@ empty : (b r : RefT (List ℕ)) (f : List Float) (k : ℕ) → (readRefusal (now
 unfolding ringStart ringLength
 empty b r f k h v = rw (ne-eqb (readRefusal (now b) f k) 0 h) v
 
-whole : (b r : RefT (List ℕ)) (f : List Float) (k a : ℕ) → readRefusal (now b) f k ≡ 0 → a ≡ base (getD (now b) 0 0) + 533 * k → VeryPart b r a 250
+whole : (b r : RefT (List ℕ)) (f : List Float) (k a : ℕ) → readRefusal (now b) f k ≡ 0 → a ≡ base (getD (now b) 0 0) + channelLen * k → VeryPart b r a ringLen
     → VeryPart b r (ringStart (now b) f k) (ringLength (now b) f k)
 unfolding ringStart ringLength
 whole b r f k a h e v = rw (eq-eqb (readRefusal (now b) f k) 0 h) (rw e at v)

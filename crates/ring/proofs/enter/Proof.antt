@@ -5,6 +5,7 @@ use native.Mathlib.Omega.{arith}
 use lib.ListN.{getD, length-set}
 use Rattle.ring.proofs.Entered.{took}
 use borrow.Author.Needs.{needs}
+use Rattle.model.specs.Layout.{atCounts}
 use Rattle.ring.proofs.enter.Statement.{statement}
 use Rattle.ring.proofs.enter.Tie as tie
 
@@ -39,7 +40,7 @@ add-chan : tie.Need-add-chan
 add-chan c =
     let w = c .before .before in
     let s = w .before .before .before .before in
-    omega (arith, ap (λ (k : ℕ). getD (s .args .chan .now) (250 + k) 0) (w .wide2 .ensures), s .pre .0 .counts-small (s .args .bin) (s .pre .1 .0))
+    omega (arith, ap (λ (k : ℕ). getD (s .args .chan .now) (atCounts + k) 0) (w .wide2 .ensures), s .pre .0 .counts-small (s .args .bin) (s .pre .1 .0))
 
 mul-chan-2 : tie.Need-mul-chan-2
 mul-chan-2 c = search needs

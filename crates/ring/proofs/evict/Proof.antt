@@ -4,6 +4,7 @@ use Prim.Native.Nat.{ℕ, _+_}
 use native.Mathlib.Omega.{arith}
 use lib.ListN.{getD}
 use Rattle.laws.proofs.Lists.{getD-part}
+use Rattle.model.specs.Layout.{bins, ringLen, atCounts}
 use Rattle.model.specs.Stores.{chanOf}
 use Rattle.model.proofs.DeadBranches.{counts-within}
 use Rattle.ring.proofs.Entered.{evicted}
@@ -37,9 +38,9 @@ sub-chan c =
     let l = s .args .chan .now in
     omega (
       arith,
-      ap (λ (k : ℕ). getD l (250 + k) 0) (w .wide .ensures),
-      sym (getD-part 250 280 l (o .result) 0 (o .ensures .1)) ∙ ap (λ (k : ℕ). getD (chanOf l .counts) k 0) (o .ensures .0),
-      counts-within 250 280 (chanOf l) (s .pre .0 .1) .lowered (s .pre .1),
+      ap (λ (k : ℕ). getD l (atCounts + k) 0) (w .wide .ensures),
+      sym (getD-part atCounts bins l (o .result) 0 (o .ensures .1)) ∙ ap (λ (k : ℕ). getD (chanOf l .counts) k 0) (o .ensures .0),
+      counts-within ringLen bins (chanOf l) (s .pre .0 .1) .lowered (s .pre .1),
     )
 
 mul-chan : tie.Need-mul-chan

@@ -4,6 +4,7 @@ use lib.ListN.{getD}
 use borrow.Author.Tests.{eq-eqb, ne-eqb}
 use Rattle.ring.proofs.Entered.{grown}
 use borrow.Author.Needs.{needs}
+use Rattle.model.specs.Layout.{ringLen, atFilled}
 use Rattle.ring.proofs.make_room.Statement.{statement}
 use Rattle.ring.proofs.make_room.Tie as tie
 
@@ -25,7 +26,7 @@ same-length c = search needs
 returns : tie.Need-returns
 returns c =
     let s = c .before .before .before .before .before .before .before in
-    rw (eq-eqb (getD (s .args .chan .now) 531 0) 250 (omega arith)) (c .before .before .evict .ensures)
+    rw (eq-eqb (getD (s .args .chan .now) atFilled 0) ringLen (omega arith)) (c .before .before .evict .ensures)
 
 same-length-2 : tie.Need-same-length-2
 same-length-2 c = search needs
@@ -33,7 +34,7 @@ same-length-2 c = search needs
 returns-2 : tie.Need-returns-2
 returns-2 c =
     let s = c .before .before .before in
-    rw (ne-eqb (getD (s .args .chan .now) 531 0) 250 (λ e. omega arith)) (grown (s .args .chan .now) (s .pre .0))
+    rw (ne-eqb (getD (s .args .chan .now) atFilled 0) ringLen (λ e. omega arith)) (grown (s .args .chan .now) (s .pre .0))
 
 pub make-room-spec : {M : Type 1} → statement M
 make-room-spec =

@@ -4,6 +4,7 @@ use Prim.Native.Nat.{ℕ, _<_}
 use native.Mathlib.Omega.{arith}
 use lib.ListN.{getD}
 use lib.Seq.{getD-take}
+use Rattle.model.specs.Layout.{ringLen, atNext}
 use Rattle.model.specs.Ring.{oldest}
 use Rattle.model.specs.Stores.{chanOf}
 use borrow.Author.Needs.{needs}
@@ -26,10 +27,10 @@ returns : tie.Need-returns
 returns c =
     let s = c .before .before .before .before in
     let l = s .args .chan .now in
-    let below : getD l 530 0 < 250 = s .pre .1 .next-below in
+    let below : getD l atNext 0 < ringLen = s .pre .1 .next-below in
     let e : getD l (c .before .wide .result) 0 ≡ oldest (chanOf l) =
-    ap (λ (k : ℕ). getD l k 0) (c .before .wide .ensures) ∙ sym (getD-take 250 l (getD l 530 0) 0 below) in
-    (e, omega (arith, e, s .pre .1 .bins-below (getD l 530 0) below))
+    ap (λ (k : ℕ). getD l k 0) (c .before .wide .ensures) ∙ sym (getD-take ringLen l (getD l atNext 0) 0 below) in
+    (e, omega (arith, e, s .pre .1 .bins-below (getD l atNext 0) below))
 
 pub oldest-bin-spec : {M : Type 1} → statement M
 oldest-bin-spec =

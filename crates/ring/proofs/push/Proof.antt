@@ -5,6 +5,7 @@ use lib.ListN.{getD}
 use Rattle.ring.specs.Push.{Roomy}
 use Rattle.ring.proofs.Entered.{roomy, pushed}
 use borrow.Author.Needs.{needs}
+use Rattle.model.specs.Layout.{ringLen, atFilled}
 use Rattle.ring.proofs.push.Statement.{statement}
 use Rattle.ring.proofs.push.Tie as tie
 
@@ -18,7 +19,7 @@ enter-requires : tie.Need-enter-requires
 enter-requires c κs =
     let m = c .before .before .before .before in
     let s = m .before .before .before in
-    (subst Roomy (sym (m .make-room .ensures)) (roomy (s .args .chan .now) (s .pre .0 .0) (eqb (getD (s .args .chan .now) 531 0) 250) (s .pre .0 .1)), (s .pre .1, c .lead-rise .ensures .1))
+    (subst Roomy (sym (m .make-room .ensures)) (roomy (s .args .chan .now) (s .pre .0 .0) (eqb (getD (s .args .chan .now) atFilled 0) ringLen) (s .pre .0 .1)), (s .pre .1, c .lead-rise .ensures .1))
 
 same-length : tie.Need-same-length
 same-length c = search needs

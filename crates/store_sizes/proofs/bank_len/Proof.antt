@@ -4,6 +4,7 @@ use Prim.Native.Nat.{ℕ, _+_, _*_}
 use borrow.Author.Tests.{not-true, not-false}
 use borrow.Author.Needs.{needs}
 use Rattle.laws.specs.Tests.{within}
+use Rattle.model.specs.Layout.{channelLen}
 use Rattle.store_sizes.proofs.Sizes.{high, len-none, len-for}
 use Rattle.store_sizes.proofs.bank_len.Statement.{statement}
 use Rattle.store_sizes.proofs.bank_len.Tie as tie
@@ -28,7 +29,7 @@ add-result c = search needs
 
 returns-2 : tie.Need-returns-2
 returns-2 c = let e = c .before in
-    ap (λ (b : ℕ). b + 533 * e .before .before .args .n) (c .base .ensures .0) ∙ sym (len-for _ (band e))
+    ap (λ (b : ℕ). b + channelLen * e .before .before .args .n) (c .base .ensures .0) ∙ sym (len-for _ (band e))
 
 pub bank-len-spec : {M : Type 1} → statement M
 bank-len-spec =

@@ -9,6 +9,7 @@ use Rattle.laws.specs.Lists.{part}
 use Rattle.laws.specs.Tests.{allBelow}
 use Rattle.laws.proofs.Lists.{width, length-part}
 use Rattle.laws.proofs.Tests.{all-more, all-fails, all-done}
+use Rattle.model.specs.Layout.{channelLen}
 use Rattle.model.specs.Stores.{base, chanOf, chanPart, soundChannel}
 use Rattle.stores.specs.Checks.{soundChannels}
 use Rattle.stores.proofs.channels_sound.Statement.{statement}
@@ -31,8 +32,8 @@ answer : (c : tie.After-channel-sound Inv-loop μ-loop)
 answer c = let l = c .before .before .before in
     let u = l .before .before .before .args .bank .now in
     c .channel-sound .ensures
-    ∙ ap (λ (w : ℕ). soundChannel (chanOf (part (l .before .base .result + 533 * l .loop .k) w u))) (width (l .before .base .result + 533 * l .loop .k) 533)
-    ∙ ap (λ (b : ℕ). soundChannel (chanOf (part (b + 533 * l .loop .k) 533 u))) (l .before .base .ensures .0)
+    ∙ ap (λ (w : ℕ). soundChannel (chanOf (part (l .before .base .result + channelLen * l .loop .k) w u))) (width (l .before .base .result + channelLen * l .loop .k) channelLen)
+    ∙ ap (λ (b : ℕ). soundChannel (chanOf (part (b + channelLen * l .loop .k) channelLen u))) (l .before .base .ensures .0)
 
 base-requires : tie.Need-base-requires Inv-loop μ-loop
 base-requires c κs = search needs
@@ -65,8 +66,8 @@ part-channel-sound-end c = search needs
 channel-sound-requires : tie.Need-channel-sound-requires Inv-loop μ-loop
 channel-sound-requires c κs = let l = c .before .before in
     let s = l .before .before .before in
-    let a = l .before .base .result + 533 * l .loop .k in
-    rw (width a 533) (length-part a 533 (s .args .bank .now) (omega arith))
+    let a = l .before .base .result + channelLen * l .loop .k in
+    rw (width a channelLen) (length-part a channelLen (s .args .bank .now) (omega arith))
 
 returns : tie.Need-returns Inv-loop μ-loop
 unfolding soundChannels

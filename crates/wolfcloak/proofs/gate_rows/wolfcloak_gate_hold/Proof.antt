@@ -12,8 +12,11 @@ same-length c = search needs
 same-length-2 : tie.Need-same-length-2
 same-length-2 c = search needs
 
+same-length-3 : tie.Need-same-length-3
+same-length-3 c = search needs
+
 returns : tie.Need-returns
-returns c = c .before .before .before .before .gate-hold .ensures
+returns c = c .before .before .before .before .before .before .gate-hold .ensures
 
 pub wolfcloak-gate-hold-spec : {M : Type 1} → statement M
-wolfcloak-gate-hold-spec = tie.close (tie.spec gate-hold-requires same-length same-length-2 returns)
+wolfcloak-gate-hold-spec = tie.close (tie.spec gate-hold-requires same-length same-length-2 same-length-3 returns)

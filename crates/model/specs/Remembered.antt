@@ -1,0 +1,44 @@
+-- R-3, what is claimed of the remembered thresholds: from a fresh gate, every list of calls keeps every pair true, and every judgement is the
+-- one that works the ladder out each time. The proofs are `stay-true` and `as-anew` in proofs/Remembered.antt.
+use mathlib.Core.Path.{_≡_}
+use mathlib.Core.List.{List, [], _∷_}
+use mathlib.Core.Logic.{_⊎_}
+use Prim.Native.Nat.{ℕ, _<_}
+use lib.ListN.{getD}
+use lib.Ieee.{nan}
+use Rattle.model.specs.Numbers.{f0}
+use Rattle.model.specs.Calls.{bankUpdate}
+use Rattle.model.specs.Gate.{Gate, thresholdOf}
+use Rattle.model.specs.GateCalls.{gateUpdate, gateHold}
+use Rattle.model.specs.Demand3.{Call, bank, gate, hold, Stores, left, leftBy, Making, made, Made}
+use Rattle.model.specs.Sets.{gateIn}
+use Rattle.model.specs.Anew.{allSeenAnew}
+
+-- "the floor is NaN, or the threshold is the ladder's for that floor + on"
+abbrev pub TruePair : Gate → ℕ → Type 0
+TruePair g k = (getD (g .used) k nan ≡ nan) ⊎ (getD (g .threshold) k f0 ≡ thresholdOf g (getD (g .used) k nan))
+
+pub record PairsTrue (g : Gate) : Type 0 where
+  pub pair : (k : ℕ) → k < g .n → TruePair g k
+
+-- "every operation keeps the pair true, starting from a fresh gate"
+abbrev pub StayTrue : Type 0
+StayTrue = (k : Making) (p : Stores) → Made k p → (cs : List Call) → PairsTrue (gateIn (leftBy (made k p) cs))
+
+-- a call's answer, and what its output slices, rise and drop, hold after it
+unfoldable pub seen : Stores → Call → ℕ × List ℕ × List ℕ
+seen s (bank h) = (bankUpdate (s .bu) (s .bf) h .0, [], [])
+seen s (gate h rise drop) =
+    let a = gateUpdate (s .bu) (s .bf) (s .gu) (s .gf) h rise drop in
+    (a .0, a .3, a .4)
+seen s (hold rise drop) =
+    let a = gateHold (s .bu) (s .bf) (s .gu) (s .gf) rise drop in
+    (a .0, a .2, a .3)
+
+abbrev pub allSeen : Stores → List Call → List (ℕ × List ℕ × List ℕ)
+allSeen s [] = []
+allSeen s (c ∷ cs) = seen s c ∷ allSeen (left s c) cs
+
+-- whatever the calls, refused or not, a fresh set answers and marks as one that remembers nothing
+abbrev pub AsAnew : Type 0
+AsAnew = (k : Making) (p : Stores) → Made k p → (cs : List Call) → allSeen (made k p) cs ≡ allSeenAnew (made k p) cs
