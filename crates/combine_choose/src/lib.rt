@@ -26,10 +26,10 @@ fn pick_db(is_second: bool, x: u64, y: u64) -> u64
     if is_second { y } else { x }
 }
 
-fn pick_power(is_second: bool, x: u32, y: u32) -> u32
-    ensures { λ r. ⌜ r ≡ cond «is_second» y x ⌝ }
+fn pick_power(is_second: bool, p: u32, q: u32) -> u32
+    ensures { λ r. ⌜ r ≡ cond «is_second» q p ⌝ }
 {
-    if is_second { y } else { x }
+    if is_second { q } else { p }
 }
 
 // The selection of one hop of each log, from place `from` on.

@@ -52,7 +52,7 @@ module _ (a b log : List ℕ) where
   pub turned-down : Below 256 a → Below 256 b → Judged a b (length log) Not → (r : ℕ) → r ≡ noOf (hopCount a) (hopCount b) (differ (lowTwo a 0) (lowTwo b 0))
       → _≡_ {A = Answer} (L.Refused r, log) (combined a b log)
   unfolding combined
-  turned-down f g no r e = ap (λ (v : ℕ). (L.Refused v, log)) e ∙ go (hopCount a) (hopCount b) refl refl
+  turned-down f g down r e = ap (λ (v : ℕ). (L.Refused v, log)) e ∙ go (hopCount a) (hopCount b) refl refl
     where
       rest : Answer
       rest = written (lowTwo a 0) (dbChosen a b) (powerChosen a b) log
@@ -74,6 +74,6 @@ module _ (a b log : List ℕ) where
           (λ t.
           let w : Paired a b h = record { count-a = i; count-b = j ∙ ap H.Count (sym (same-of h k (or-r unequal (differ h k) t))); same-n = same-of (lowTwo a 0) (lowTwo b 0) (or-l unequal (differ h k) t) } in
           ap (λ (b : Bool). (L.Refused (cond b 13 2), log)) t
-          ∙ refused-room h f g w (no h w)
+          ∙ refused-room h f g w (down h w)
           ∙ ap₂ by-counts i j)
           ∙ sym (ap₂ by-counts i j)

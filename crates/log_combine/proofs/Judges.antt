@@ -65,6 +65,18 @@ module _ (log : List ℕ) (n h : ℕ) (bound : Below 256 log) (e : hopCount log 
       let o = onto log at db power _ _ _ r in
       (subst (λ (x : ℕ). at < x) (sym (ap (λ (y : Reading). placeAfter (y .0) at) r)) (o .0), omega (arith, o .0, o .1))
 
+-- ---- what the code's tests tell
+
+-- both stand before their ends
+pub before-tells : (x a y b : ℕ) → (ltb x a && ltb y b) ≡ true → (x < a) × (y < b)
+before-tells x a y b t = (ltb-true x a (and-l (ltb x a) (ltb y b) t), ltb-true y b (and-r (ltb x a) (ltb y b) t))
+
+-- both moved, and there is room
+pub goes-tells : (x a y b more left : ℕ) → (ltb x a && (ltb y b && leb more left)) ≡ true → (x < a) × ((y < b) × (more ≤ left))
+goes-tells x a y b more left t =
+    let u = and-r (ltb x a) (ltb y b && leb more left) t in
+    (ltb-true x a (and-l (ltb x a) (ltb y b && leb more left) t), (ltb-true y b (and-l (ltb y b) (leb more left) u), leb-true more left (and-r (ltb y b) (leb more left) u)))
+
 -- ---- both: some hops are behind the pass
 
 pub record Judging (a b : List ℕ) (x y len hops : ℕ) (d p e q db power : List ℕ) : Type 0 where
@@ -106,16 +118,14 @@ module _ (a b : List ℕ) (f : Below 256 a) (g : Below 256 b) (sa : startRefusal
         (dbs : db' ≡ tab (length d) (chosenAt p q d e) ++ tab (length d) (chosenAt p' q' d' e'))
         (powers : power' ≡ tab (length d) (chosenAt p q p q) ++ tab (length d) (chosenAt p' q' p' q'))
         (more : ℕ) (more-is : more ≡ width n + 12 * tally n (λ k. changed n db' power' (n + k))) where
-      x-before : x < length a
-      x-before = ltb-true x (length a) (and-l (ltb x (length a)) (ltb y (length b)) before)
-
       next-hop : (h : ℕ) → Paired a b h → hops < h
-      next-hop h w = let u = v .walk h w in stands-before a n h f (w .count-a) refl hops x d p (u .first) (u .upto) x-before
+      next-hop h w = let u = v .walk h w in stands-before a n h f (w .count-a) refl hops x d p (u .first) (u .upto) (before-tells x (length a) y (length b) before .0)
 
       pub judging-next : (left : ℕ) → (ltb x x' && (ltb y y' && leb more left)) ≡ true → Judging a b x' y' (len + more) (hops + 1) d' p' e' q' db' power'
       judging-next left t =
-          let m = moved a x d p x' d' p' (places .0) (ones .0) (ones .1) (ltb-true x x' (and-l (ltb x x') (ltb y y' && leb more left) t)) in
-          let k = moved b y e q y' e' q' (places .1) (twos .0) (twos .1) (ltb-true y y' (and-l (ltb y y') (leb more left) (and-r (ltb x x') (ltb y y' && leb more left) t))) in
+          let s = goes-tells x x' y y' more left t in
+          let m = moved a x d p x' d' p' (places .0) (ones .0) (ones .1) (s .0) in
+          let k = moved b y e q y' e' q' (places .1) (twos .0) (twos .1) (s .1 .0) in
           record {
             count-a = next-counts a d p x hops (v .count-a) x' d' p' m;
             count-b = next-counts b e q y hops (v .count-b) y' e' q' k;

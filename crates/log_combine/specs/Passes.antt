@@ -41,7 +41,10 @@ Judged a b room (Fits h) = Paired a b h × (length (combinedLog a b) ≤ room)
 Judged a b room Not = (h : ℕ) → Paired a b h → room < length (combinedLog a b)
 
 -- the number, where it said no: the first log's refusal, the second's, 13 for unequal n or numbers of hops, else 2
+abbrev pub alikeNo : Bool → ℕ → ℕ → ℕ
+alikeNo unequal h k = cond (unequal || differ h k) 13 2
+
 abbrev pub noOf : HopCount → HopCount → Bool → ℕ
 noOf (H.Refused r) y unequal = r
 noOf (H.Count h) (H.Refused r) unequal = r
-noOf (H.Count h) (H.Count k) unequal = cond (unequal || differ h k) 13 2
+noOf (H.Count h) (H.Count k) unequal = alikeNo unequal h k

@@ -19,7 +19,7 @@ ghost use Rattle.combine_model.specs.Choose.{chosenAt};
 ghost use Rattle.combine_model.specs.Combined.{hopCount, combinedLog, Paired, combined};
 ghost use Rattle.combine_choose.specs.Lent.{Lent};
 ghost use Rattle.log_combine.specs.declared.Fit.the-variants.{Fits, Not};
-ghost use Rattle.log_combine.specs.Passes.{Begun, Ready, Judged, noOf};
+ghost use Rattle.log_combine.specs.Passes.{Begun, Ready, Judged, alikeNo, noOf};
 use combine_model::HopCount;
 use log_model::LogLength;
 use log_model::LogRead;
@@ -86,7 +86,13 @@ fn hop_len(n: usize, db: &[u64], power: &[u32]) -> usize
 fn goes_on(x: usize, a: usize, y: usize, b: usize, more: usize, left: usize) -> bool
     ensures { λ r. ⌜ r ≡ (ltb x a && (ltb y b && leb more left)) ⌝ }
 {
-    x < a && y < b && more <= left
+    if x >= a {
+        return false;
+    }
+    if y >= b {
+        return false;
+    }
+    more <= left
 }
 
 // Both logs stand before a hop, or where one should be.
@@ -100,10 +106,13 @@ fn is_before(x: usize, a: usize, y: usize, b: usize) -> bool
 fn fit_at(x: usize, a: usize, y: usize, b: usize, hops: usize) -> Fit
     ensures { λ r. ⌜ r ≡ cond (eqb x a && eqb y b) (Fits hops) Not ⌝ }
 {
-    if x == a && y == b {
-        return Fit::Fits(hops);
+    if x != a {
+        return Fit::Not;
     }
-    Fit::Not
+    if y != b {
+        return Fit::Not;
+    }
+    Fit::Fits(hops)
 }
 
 // The first pass. Only a hop that was read moves a log's place; the length is never worked out further than there is room.
@@ -269,18 +278,26 @@ fn count_hops(log: &[u8]) -> HopCount
     count_on(log, &mut db[..n], &mut power[..n])
 }
 
-// The number of the refusal from what was counted in each log: 2 is left for logs that pass, whose result has no room.
+// Of two logs that read to their ends: 2 is left for those that are alike, whose result has no room.
+fn alike_no(unequal: bool, hops: usize, others: usize) -> u16
+    ensures { λ r. ⌜ r ≡ alikeNo unequal hops others ⌝ }
+{
+    if unequal {
+        return 13;
+    }
+    if hops != others {
+        return 13;
+    }
+    2
+}
+
+// The number of the refusal, from what was counted in each log.
 fn no_of(one: HopCount, two: HopCount, unequal: bool) -> u16
     ensures { λ r. ⌜ r ≡ noOf one two unequal ⌝ }
 {
     match one {
         HopCount::Count(hops) => match two {
-            HopCount::Count(others) => {
-                if unequal || hops != others {
-                    return 13;
-                }
-                2
-            }
+            HopCount::Count(others) => alike_no(unequal, hops, others),
             HopCount::Refused(r) => r,
         },
         HopCount::Refused(r) => r,

@@ -77,21 +77,21 @@ in-loop t = t .before .before .before .before .before .before .before
 
 -- what a turn shows
 after : (t : tie.After-turn Inv-loop μ-loop) → (let l = in-loop t .before in let a = start (known l) .args in
-    Shown (lowTwo (a .first .now) 0) (dbChosen (a .first .now) (a .second .now)) (powerChosen (a .first .now) (a .second .now)) (l .loop .j) (t .turn .last .1 .1 .1 .1 .1 .1 .1 .0) (t .turn .last .1 .1 .1 .1 .1 .1 .1 .1 .0))
+    Shown (lowTwo (a .first .now) 0) (dbChosen (a .first .now) (a .second .now)) (powerChosen (a .first .now) (a .second .now)) (l .loop .j) (t .turn .last .1 .1 .1 .1 .1 .1 .1 .1 .0) (t .turn .last .1 .1 .1 .1 .1 .1 .1 .1 .1 .0))
 after t =
     let l = in-loop t .before in
     let k = known l in
     let s = start k in
     let a = s .args in
     let o = l .loop in
-    let m = t .turn .last .1 .1 .1 in
+    let m = t .turn .last .1 .1 .1 .1 in
     let u = t .turn .ensures in
     walk-shows (a .first .now) (a .second .now) (a .hops) (bytes-a k) (bytes-b k) (s .pre .0 .pair) (o .x) (o .y) (o .len) (o .j) (o .d) (o .p) (o .e) (o .q) (o .db) (o .power) (o .inv .1 .1 .1)
     (in-loop t .loop-test .taken) (t .turn .result .first) (t .turn .result .second) (m .0) (m .1 .0) (m .1 .1 .0) (m .1 .1 .1 .0) (m .1 .1 .1 .1 .0) (m .1 .1 .1 .1 .1 .0) (u .0) (u .1 .0) (u .1 .1 .0) (u .1 .1 .1 .0) (u .1 .1 .1 .1)
 
 -- there is room for the hop
 room : (t : tie.After-turn Inv-loop μ-loop) → (let l = in-loop t .before in let a = start (known l) .args in let n = lowTwo (a .first .now) 0 in
-    l .loop .len + (width n + 12 * tally n (λ k. changed n (t .turn .last .1 .1 .1 .1 .1 .1 .1 .0) (t .turn .last .1 .1 .1 .1 .1 .1 .1 .1 .0) (n + k))) ≤ length (l .loop .log))
+    l .loop .len + (width n + 12 * tally n (λ k. changed n (t .turn .last .1 .1 .1 .1 .1 .1 .1 .1 .0) (t .turn .last .1 .1 .1 .1 .1 .1 .1 .1 .1 .0) (n + k))) ≤ length (l .loop .log))
 room t =
     let l = in-loop t .before in
     let k = known l in
@@ -102,7 +102,7 @@ room t =
     omega (
       arith,
       combined-within (a .first .now) (a .second .now) (a .hops) (bytes-a k) (bytes-b k) (s .pre .0 .pair) (o .j) (in-loop t .loop-test .taken),
-      shown-tally (lowTwo (a .first .now) 0) _ _ (o .j) (t .turn .last .1 .1 .1 .1 .1 .1 .1 .0) (t .turn .last .1 .1 .1 .1 .1 .1 .1 .1 .0) (after t),
+      shown-tally (lowTwo (a .first .now) 0) _ _ (o .j) (t .turn .last .1 .1 .1 .1 .1 .1 .1 .1 .0) (t .turn .last .1 .1 .1 .1 .1 .1 .1 .1 .1 .0) (after t),
       v .len-is,
       s .pre .1,
       o .inv .1 .0,
@@ -118,10 +118,10 @@ put-hop-requires c κs =
     let a = s .args in
     let o = l .loop in
     let v = o .inv .1 .1 .1 in
-    let db : List ℕ = t .turn .last .1 .1 .1 .1 .1 .1 .1 .0 in
-    let power : List ℕ = t .turn .last .1 .1 .1 .1 .1 .1 .1 .1 .0 in
+    let db : List ℕ = t .turn .last .1 .1 .1 .1 .1 .1 .1 .1 .0 in
+    let power : List ℕ = t .turn .last .1 .1 .1 .1 .1 .1 .1 .1 .1 .0 in
     let few = few-channels (a .first .now) (a .second .now) (a .hops) (bytes-a k) (bytes-b k) (s .pre .0 .pair) in
-    let z = t .turn .kept .1 .1 .1 .1 .1 .1 .1 in (
+    let z = t .turn .kept .1 .1 .1 .1 .1 .1 .1 .1 in (
       (omega (arith, z .0, v .db-long, o .inv .0), (z .1 .0 ∙ v .power-long ∙ sym (z .0 ∙ v .db-long), omega (arith, few, o .inv .0))),
       subst (λ (m : ℕ). o .len + (width m + 12 * tally m (λ k. changed m db power (m + k))) ≤ length (o .log)) (sym (o .inv .0)) (room t),
     )
@@ -145,7 +145,7 @@ loop-again c =
     let a = s .args in
     let o = l .loop in
     let v = o .inv .1 .1 .1 in
-    let m = t .turn .last .1 .1 .1 in
+    let m = t .turn .last .1 .1 .1 .1 in
     let u = t .turn .ensures in
     let db : List ℕ = m .1 .1 .1 .1 .0 in
     let power : List ℕ = m .1 .1 .1 .1 .1 .0 in
