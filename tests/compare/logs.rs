@@ -20,14 +20,14 @@ fn any_power(rng: &mut Rng) -> u32 {
     if rng.one_in(2) { rng.pick(&ODD) } else { rng.next() as u32 }
 }
 
-/// Hops of n channels: of each pair both halves, one half or nothing is other than before.
-fn any_hops(rng: &mut Rng, n: usize, hops: usize) -> (Vec<u64>, Vec<u32>) {
+/// Hops of n channels: of each pair both halves, one half or nothing is other than before; something is for three pairs in so many.
+fn any_hops(rng: &mut Rng, n: usize, hops: usize, many: usize) -> (Vec<u64>, Vec<u32>) {
     let (mut db, mut power) = (vec![0; n * hops], vec![0; n * hops]);
     for i in 0..n * hops {
         if i >= n {
             (db[i], power[i]) = (db[i - n], power[i - n]);
         }
-        match rng.below(5) {
+        match rng.below(many) {
             0 => db[i] = any_bits(rng),
             1 => power[i] = any_power(rng),
             2 => (db[i], power[i]) = (any_bits(rng), any_power(rng)),
@@ -127,7 +127,7 @@ pub fn any_logs(t: &mut Tally, rng: &mut Rng) {
     for n in SIZES {
         for round in 0..12 {
             let hops = round % 6;
-            let (db, power) = any_hops(rng, n, hops);
+            let (db, power) = any_hops(rng, n, hops, if round < 6 { 5 } else { n.max(5) });
             let most = 2 + hops * (n.div_ceil(8) + 12 * n);
             let log = write(t, n, &db, &power, most + 9).expect("there is room");
             for room in [log.len(), log.len() - 1, 0, 1, 2, log.len() / 2] {

@@ -1,12 +1,12 @@
 -- The last 2n floats of a gate's store are its pairs, and brought up to date they are those of `refresh`. Assumes nothing.
-use mathlib.Core.Path.{_≡_, refl, sym, ap, ap₂, subst, _∙_}
+use mathlib.Core.Path.{_≡_, refl, sym, ap, ap₂, _∙_}
 use mathlib.Core.Bool.{cond}
 use mathlib.Core.List.{List, _++_, append-assoc, map}
 use Prim.Native.Nat.{ℕ, zero, suc, _+_, _-_, _*_, _<_}
 use native.Mathlib.Nat.{add-assoc}
 use native.Mathlib.Omega.{arith}
 use lib.ListN.{length, getD, length-append}
-use lib.Ieee.{Float, nan, ne}
+use lib.Ieee.{Float, nan}
 use Rattle.laws.specs.Lists.{part, splice, tab, joined}
 use Rattle.laws.proofs.Defaults.{getD-any}
 use Rattle.laws.proofs.Lists.{width, length-part, getD-part}
@@ -17,7 +17,7 @@ use Rattle.model.specs.Stores.{bankOf}
 use Rattle.model.specs.Readings.{riseAt}
 use Rattle.model.specs.Bank.{FloorBank}
 use Rattle.model.specs.Gate.{Gate, levelOf, thresholdOf as thresholdFor, differs, refresh, holdAt, holdStep}
-use Rattle.model.specs.GateStores.{lookF, gateU, gateF, pairStart, gateOf}
+use Rattle.model.specs.GateStores.{lookF, gateF, pairStart, gateOf}
 use Rattle.model.specs.GoodGate.{GateReady}
 use Rattle.model.proofs.GateStores.{gate-forth-u, gate-forth-f}
 use Rattle.model.proofs.GoodGates.{n-of, on-of, started-of, used-of, threshold-of, sizes, front, front-long, fronted}

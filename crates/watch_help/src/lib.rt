@@ -70,7 +70,7 @@ fn print_report() {
         b"It prints the settings, a line for each change of a channel's state, and at the end the floors of each channel and\n",
     );
     say(
-        b"how long it was alive. What is wrong with it goes to standard error, with the hop and the byte, and\n",
+        b"how long it was alive. What is wrong with FILE goes to standard error, with the hop and the byte, and\n",
     );
     say(b"what came before is still reported.\n");
 }

@@ -19,7 +19,7 @@ const MOST_BANK_F: usize = 4 * MOST + 2 * MOST_BLOCKS;
 
 const GATE: usize = 30;
 
-// A gate of 512 channels with windows of 15, 75 and 375 hops takes 479,744; all stores together fit a stack of 8 MB.
+// A gate of 512 channels with windows of 15, 75 and 375 hops takes 480,768; all stores together fit a stack of 8 MB.
 const MOST_GATE_F: usize = 500000;
 
 pub fn watch_open(fd: i32, name: &[u8], s: Settings, lengths: &[u16; 8]) {
