@@ -1,18 +1,17 @@
 -- Laws on the selection. Assumes nothing.
-use mathlib.Core.Path.{_≡_, refl, sym, ap, ap₂, subst, _∙_}
+use mathlib.Core.Path.{_≡_, refl, sym, ap, ap₂, _∙_}
 use mathlib.Core.Bool.{Bool, true, false, cond, not}
 use mathlib.Core.List.{List}
-use Prim.Native.Nat.{ℕ, _+_, _*_, _%_, _^_, _<_, _≤_}
+use Prim.Native.Nat.{ℕ, _%_, _^_, _<_}
 use native.Mathlib.Omega.{arith}
 use lib.Dec.{eqb}
 use lib.Ieee.{Float, nan, inf, fin, binary32, ofBits, eq, ne, lt, isNan}
 use lib.ListN.{length, getD}
 use borrow.Author.Tests.{eq-eqb}
-use Rattle.laws.specs.Lists.{tab}
 use Rattle.laws.proofs.Floats.{ne-self}
 use Rattle.laws.proofs.Tabs.{length-tab, getD-tab, tab-ext, tab-getD}
 use Rattle.log_model.specs.Whole.{Below, Hops}
-use Rattle.combine_model.specs.Choose.{isSecond, chosen, chosenAt, selected}
+use Rattle.combine_model.specs.Choose.{isSecond, chosenAt, selected}
 use Rattle.combine_model.proofs.Taken.{below-tab, below-cond}
 
 pub cond-same : {A : Type 0} (t : Bool) (x : A) → cond t x x ≡ x

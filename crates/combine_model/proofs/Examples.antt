@@ -3,7 +3,7 @@ use mathlib.Core.Path.{_≡_, refl}
 use mathlib.Core.Bool.{true, false}
 use mathlib.Core.List.{List, [], _∷_}
 use Prim.Native.Nat.{ℕ}
-use lib.Ieee.{binary32, ofBits, lt, isNan}
+use lib.Ieee.{ofBits, lt, isNan}
 use Rattle.log_model.specs.Format.{logOf, writeRefusal, written, hopAt, mapOf, pairsOf, pairOf}
 use Rattle.low_first.specs.LowFirst.{lowBytes, without, lowTwo, lowFour, lowEight}
 use Rattle.laws.specs.Bits.{bitAt, number, bitOf, bytesOf}

@@ -1,9 +1,9 @@
 -- What a reading hands out: whole hops of bit patterns that fit, so the writer takes them. Assumes nothing.
-use mathlib.Core.Path.{_≡_, refl, sym, ap, ap₂, subst, _∙_}
+use mathlib.Core.Path.{_≡_, refl, sym, ap, subst, _∙_}
 use mathlib.Core.Bool.{Bool, true, false, cond}
 use mathlib.Core.List.{List, [], _++_}
-use Prim.Native.Nat.{ℕ, zero, suc, _+_, _-_, _*_, _/_, _%_, _^_, _<_, _≤_}
-use native.Mathlib.Nat.{mul-zero, mul-suc, mul-div-right, mul-mod-right}
+use Prim.Native.Nat.{ℕ, zero, suc, _+_, _-_, _*_, _%_, _^_, _<_, _≤_}
+use native.Mathlib.Nat.{mul-zero, mul-suc, mul-mod-right}
 use native.Mathlib.Omega.{arith}
 use lib.Dec.{ltb}
 use lib.ListN.{length, getD, length-append, List·getD-append}
@@ -16,7 +16,6 @@ use Rattle.low_first.specs.LowFirst.{lowTwo, lowFour, lowEight}
 use Rattle.log_model.specs.Format.{logOf}
 use Rattle.log_model.specs.Read.{isSet, pairAt, dbAfter, powerAfter, readHop}
 use Rattle.log_model.specs.Whole.{Reading, onward, readOn, readLog, Below, Hops}
-use Rattle.log_model.specs.declared.LogRead.{LogRead}
 use Rattle.log_model.specs.declared.LogRead.the-variants.{Next, End, Refused}
 use Rattle.log_model.proofs.Answers.{Started, started}
 use Rattle.log_model.proofs.Inverse.{Read, read-tells, end-tells, kind}

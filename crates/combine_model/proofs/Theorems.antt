@@ -1,6 +1,6 @@
 -- Two logs combined: with itself a log stays as it is; a result reads to its end as the selection. Assumes nothing.
 use mathlib.Core.Path.{_≡_, refl, sym, ap, ap₂, subst, _∙_}
-use mathlib.Core.Bool.{Bool, true, false, cond, _||_}
+use mathlib.Core.Bool.{Bool, cond, _||_}
 use mathlib.Core.List.{List, _++_}
 use Prim.Native.Nat.{ℕ, _*_, _/_, _≤_}
 use native.Mathlib.Nat.{mul-div-right}
@@ -8,9 +8,9 @@ use native.Mathlib.Omega.{arith}
 use lib.Dec.{eqb}
 use lib.ListN.{length, take, drop}
 use lib.Seq.{take-at}
-use borrow.Author.Tests.{eq-eqb, ne-eqb, eqb-true, eqb-false}
+use borrow.Author.Tests.{eq-eqb}
 use Rattle.laws.specs.Tests.{differ}
-use Rattle.laws.proofs.Tests.{by-test, clash, or-l, or-r, same-of, agrees}
+use Rattle.laws.proofs.Tests.{by-test, or-l, or-r, same-of, agrees}
 use Rattle.low_first.specs.LowFirst.{lowTwo}
 use Rattle.log_model.specs.Format.{logOf, writeRefusal, written}
 use Rattle.log_model.specs.Whole.{Reading, readLog, Below, Hops}
@@ -19,14 +19,12 @@ use Rattle.log_model.specs.declared.LogRead.the-variants as R
 use Rattle.log_model.specs.declared.LogLength.{LogLength}
 use Rattle.log_model.specs.declared.LogLength.the-variants as L
 use Rattle.log_model.proofs.RoundTrip.{reads-back}
-use Rattle.log_write.proofs.Refuses.{by-none, write-refused, write-done}
-use Rattle.log_hops.proofs.Puts.{put-front}
+use Rattle.log_write.proofs.Refuses.{by-none}
 use Rattle.combine_model.specs.declared.HopCount.{HopCount}
 use Rattle.combine_model.specs.declared.HopCount.the-variants as H
-use Rattle.combine_model.specs.Choose.{selected}
-use Rattle.combine_model.specs.Combined.{counted, hopCount, dbOf, powerOf, dbChosen, powerChosen, combinedLog, unless, combined, Paired}
+use Rattle.combine_model.specs.Combined.{counted, hopCount, dbOf, powerOf, dbChosen, powerChosen, unless, combined, Paired}
 use Rattle.combine_model.specs.Claims.{WithItself, ReadsAsChosen, NeverRefused}
-use Rattle.combine_model.proofs.Taken.{Taken, taken, began, hops-of, log-is}
+use Rattle.combine_model.proofs.Taken.{taken, began, hops-of, log-is}
 use Rattle.combine_model.proofs.Chosen.{selected-self, hops-selected}
 
 -- ---- the number of hops

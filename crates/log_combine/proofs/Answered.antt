@@ -1,14 +1,14 @@
 -- The answer, from the tests that led to it. Assumes nothing.
-use mathlib.Core.Path.{_≡_, refl, sym, ap, ap₂, subst, _∙_}
-use mathlib.Core.Bool.{Bool, true, false, cond, _||_}
-use mathlib.Core.List.{List, _++_}
+use mathlib.Core.Path.{_≡_, refl, sym, ap, ap₂, _∙_}
+use mathlib.Core.Bool.{Bool, cond, _||_}
+use mathlib.Core.List.{List}
 use Prim.Native.Nat.{ℕ, _<_, _≤_}
 use native.Mathlib.Omega.{arith}
 use lib.ListN.{length}
 use Rattle.laws.specs.Tests.{differ}
 use Rattle.laws.proofs.Tests.{by-test, or-l, or-r, same-of}
 use Rattle.low_first.specs.LowFirst.{lowTwo}
-use Rattle.log_model.specs.Format.{logOf, written}
+use Rattle.log_model.specs.Format.{written}
 use Rattle.log_model.specs.Whole.{Below}
 use Rattle.log_model.specs.declared.LogLength.{LogLength}
 use Rattle.log_model.specs.declared.LogLength.the-variants as L

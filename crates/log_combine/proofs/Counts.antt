@@ -1,22 +1,20 @@
 -- A log read from its first hop on, hop by hop: what is known after some hops, and what an answer then tells. Assumes nothing.
-use mathlib.Core.Path.{_≡_, refl, sym, ap, ap₂, subst, _∙_}
-use mathlib.Core.List.{List, [], _∷_, _++_}
+use mathlib.Core.Path.{_≡_, refl, sym, ap, ap₂, _∙_}
+use mathlib.Core.List.{List, _∷_}
 use Prim.Native.Nat.{ℕ, zero, suc, _+_, _-_, _*_, _/_, _<_, _≤_}
-use native.Mathlib.Nat.{mul-zero, mul-suc, mul-div-right, add-zero}
+use native.Mathlib.Nat.{mul-zero, mul-suc, mul-div-right}
 use native.Mathlib.Numerals.{add-one}
 use native.Mathlib.Omega.{arith}
 use lib.ListN.{length, length-append, take, replicate}
 use Rattle.laws.specs.Lists.{tab, tabFrom}
 use Rattle.laws.proofs.Tabs.{length-tab}
 use Rattle.low_first.specs.LowFirst.{lowTwo}
-use Rattle.laws.specs.Bits.{width}
 use Rattle.log_model.specs.Read.{pairAt, dbAfter, readHop, startRefusal}
 use Rattle.log_model.specs.Whole.{Reading, onward, readOn, readLog}
 use Rattle.log_model.specs.declared.LogRead.{LogRead}
 use Rattle.log_model.specs.declared.LogRead.the-variants as R
-use Rattle.log_model.proofs.Answers.{Started, started, Whole, whole, read-refused}
-use Rattle.log_model.proofs.Inverse.{Read, read-tells, end-tells}
-use Rattle.combine_model.specs.declared.HopCount.{HopCount}
+use Rattle.log_model.proofs.Answers.{started, whole, read-refused}
+use Rattle.log_model.proofs.Inverse.{read-tells, end-tells}
 use Rattle.combine_model.specs.declared.HopCount.the-variants as H
 use Rattle.combine_model.specs.Combined.{counted, hopCount, dbOf, powerOf}
 

@@ -1,24 +1,23 @@
 -- Both logs in step. Assumes nothing.
-use mathlib.Core.Path.{_≡_, refl, sym, ap, ap₂, subst, _∙_}
-use mathlib.Core.Bool.{Bool, true, false, cond, _||_}
-use mathlib.Core.List.{List, [], _++_, append-nil}
-use Prim.Native.Nat.{ℕ, zero, suc, _+_, _-_, _*_, _/_, _%_, _<_, _≤_}
-use native.Mathlib.Nat.{mul-zero, mul-div-right}
+use mathlib.Core.Path.{_≡_, refl, sym, ap, subst, _∙_}
+use mathlib.Core.Bool.{Bool, cond, _||_}
+use mathlib.Core.List.{List, _++_, append-nil}
+use Prim.Native.Nat.{ℕ, _+_, _-_, _*_, _/_, _<_, _≤_}
 use native.Mathlib.Omega.{arith}
 use lib.Dec.{ltb}
-use lib.ListN.{length, getD, drop, length-append, drop-of-length-le, List·getD-append}
+use lib.ListN.{length, getD, length-append, drop-of-length-le, List·getD-append}
 use lib.Seq.{getD-append-add}
-use borrow.Author.Tests.{lt-ltb, le-ltb, ltb-true, ltb-false}
+use borrow.Author.Tests.{le-ltb, ltb-false}
 use Rattle.laws.specs.Lists.{tab, joined}
 use Rattle.laws.specs.Tests.{differ, tally}
-use Rattle.laws.proofs.Tabs.{length-tab, getD-tab, tab-ext, joined-next}
+use Rattle.laws.proofs.Tabs.{length-tab, getD-tab, joined-next}
 use Rattle.laws.proofs.Tests.{by-test}
 use Rattle.low_first.specs.LowFirst.{lowTwo}
 use Rattle.laws.specs.Bits.{width}
-use Rattle.log_model.specs.Format.{hopOf, before, changed, hopAt, logOf}
+use Rattle.log_model.specs.Format.{hopOf, before, changed, hopAt}
 use Rattle.log_model.specs.Read.{readHop}
-use Rattle.log_model.specs.Whole.{Reading, readLog, Below, Hops}
-use Rattle.log_model.specs.declared.LogRead.the-variants.{Next, End}
+use Rattle.log_model.specs.Whole.{Reading, Below, Hops}
+use Rattle.log_model.specs.declared.LogRead.the-variants.{Next}
 use Rattle.laws.proofs.Tallies.{tally-ext}
 use Rattle.log_model.proofs.Lengths.{hop-within, hop-fits, log-parts, length-at}
 use Rattle.log_model.proofs.NoOther.{hop-ext}
@@ -31,7 +30,7 @@ use Rattle.combine_choose.specs.Lent.{Lent}
 use Rattle.log_combine.specs.Passes.{Ready}
 use Rattle.combine_model.proofs.Chosen.{cond-same, selected-at, length-selected}
 use Rattle.combine_model.proofs.Taken.{hops-of, log-is}
-use Rattle.combine_model.proofs.Theorems.{count-tells, hops-long}
+use Rattle.combine_model.proofs.Theorems.{count-tells}
 use Rattle.log_hops.specs.Put.{put}
 use Rattle.log_hops.proofs.Puts.{put-next, put-front}
 

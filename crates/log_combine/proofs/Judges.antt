@@ -2,12 +2,12 @@
 use mathlib.Core.Path.{_≡_, refl, sym, ap, ap₂, subst, _∙_}
 use mathlib.Core.Bool.{Bool, true, false, cond, _&&_}
 use mathlib.Core.List.{List, _++_}
-use Prim.Native.Nat.{ℕ, _+_, _-_, _*_, _/_, _<_, _≤_}
+use Prim.Native.Nat.{ℕ, _+_, _-_, _*_, _<_, _≤_}
 use native.Mathlib.Omega.{arith}
 use lib.Dec.{eqb, ltb, leb}
 use lib.ListN.{length}
 use borrow.Author.Tests.{eq-eqb, eqb-true, lt-ltb, ltb-true, ltb-false, leb-true, leb-false}
-use Rattle.laws.specs.Lists.{tab, joined}
+use Rattle.laws.specs.Lists.{tab}
 use Rattle.laws.specs.Bits.{width}
 use Rattle.laws.specs.Tests.{tally}
 use Rattle.laws.proofs.Tests.{by-test, clash, and-l, and-r, and-true}
@@ -16,7 +16,6 @@ use Rattle.log_model.specs.Answers.{placeAfter}
 use Rattle.log_model.specs.Format.{changed}
 use Rattle.log_model.specs.Read.{startRefusal, readHop}
 use Rattle.log_model.specs.Whole.{Reading, Below}
-use Rattle.log_model.specs.declared.LogRead.{LogRead}
 use Rattle.log_model.specs.declared.LogRead.the-variants as R
 use Rattle.log_model.proofs.Answers.{Started, started, starts, read-end}
 use Rattle.log_model.proofs.Lengths.{log-parts}
@@ -27,7 +26,7 @@ use Rattle.combine_model.proofs.Taken.{began, log-is}
 use Rattle.combine_model.proofs.Theorems.{count-tells}
 use Rattle.log_combine.specs.declared.Fit.{Fit}
 use Rattle.log_combine.specs.declared.Fit.the-variants.{Fits, Not}
-use Rattle.log_combine.specs.Passes.{Slices, Begun, Ready, Judged}
+use Rattle.log_combine.specs.Passes.{Slices, Judged}
 use Rattle.log_combine.proofs.Counts.{Counting, begins, onto, next-counts, end-counts}
 use Rattle.log_combine.proofs.InStep.{Stands, placeOf, reads, Walk, walk-begins, walk-shows, walk-next, shown-tally, combined-parts, combined-within}
 

@@ -285,10 +285,10 @@ fn alike_no(unequal: bool, hops: usize, others: usize) -> u16
     if unequal {
         return 13;
     }
-    if hops != others {
-        return 13;
+    if hops == others {
+        return 2;
     }
-    2
+    13
 }
 
 // The number of the refusal, from what was counted in each log.

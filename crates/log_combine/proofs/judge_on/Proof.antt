@@ -1,6 +1,5 @@
-use mathlib.Core.Path.{_≡_, refl, sym, ap, subst, _∙_}
-use mathlib.Core.Bool.{Bool, true, _&&_}
-use mathlib.Core.List.{List}
+use mathlib.Core.Path.{_≡_, refl, sym, ap, _∙_}
+use mathlib.Core.Bool.{true, _&&_}
 use Prim.Native.Nat.{ℕ, _≤_, _<_, _-_, _+_, _*_}
 use native.Mathlib.Omega.{arith}
 use lib.Dec.{ltb, leb}
@@ -11,7 +10,6 @@ use Rattle.laws.specs.Tests.{tally}
 use Rattle.low_first.specs.LowFirst.{lowTwo}
 use Rattle.log_model.specs.Format.{changed}
 use Rattle.log_model.specs.Whole.{Below}
-use Rattle.combine_choose.specs.Lent.{Lent}
 use Rattle.log_combine.proofs.InStep.{zeros-are}
 use Rattle.log_combine.proofs.Judges.{before-tells, goes-tells, Judging, started-a, judging-begins, judging-next, judging-stops, judging-ends}
 use borrow.Author.Needs.{needs}

@@ -1,12 +1,12 @@
 use mathlib.Core.Path.{_≡_, refl, sym, ap, ap₂, subst, _∙_}
 use mathlib.Core.List.{List, _++_}
-use Prim.Native.Nat.{ℕ, _≤_, _<_, _-_, _+_, _*_, _/_}
+use Prim.Native.Nat.{ℕ, _≤_, _-_, _+_, _*_}
 use native.Mathlib.Omega.{arith}
-use lib.ListN.{length, getD, length-append}
+use lib.ListN.{length, getD}
 use Rattle.laws.specs.Lists.{tab, joined}
 use Rattle.low_first.specs.LowFirst.{lowTwo, lowBytes}
 use Rattle.laws.specs.Bits.{width}
-use Rattle.log_model.specs.Format.{hopOf, changed, hopAt, logOf}
+use Rattle.log_model.specs.Format.{hopOf, changed, logOf}
 use Rattle.laws.specs.Tests.{tally}
 use Rattle.log_model.specs.Whole.{Below}
 use Rattle.low_first.proofs.Bytes.{length-low}
