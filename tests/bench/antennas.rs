@@ -3,7 +3,7 @@ use crate::logs::{hops, rate_row};
 use crate::{log_rows, plain_antennas, plain_log, time};
 
 pub fn row(n: usize, kept: usize) {
-    let count = 1_000_000 / n;
+    let count = 100_000 / n;
     let most = 2 + count * (n.div_ceil(8) + 12 * n);
     let [first, second] = [1, 2].map(|seed| {
         let (db, power) = hops(n, count, kept, seed);
@@ -14,7 +14,7 @@ pub fn row(n: usize, kept: usize) {
     });
     let (mut log, mut plain, mut len) = (vec![0; most], vec![0; most], 0);
     let mut best = [f64::MAX; 2];
-    for _ in 0..9 {
+    for _ in 0..60 {
         let ours = time(|| assert!(log_rows::combine(&first, &second, &mut log, &mut len) == 0));
         let theirs = time(|| assert!(plain_antennas::combine(&first, &second, &mut plain).is_ok()));
         best = [best[0].min(ours), best[1].min(theirs)];

@@ -14,6 +14,9 @@ use borrow.Author.Needs.{needs}
 use Rattle.log_combine.proofs.turn.Statement.{statement}
 use Rattle.log_combine.proofs.turn.Tie as tie
 
+abbrev start : tie.After-choose → tie.Start
+start h = h .before .before .before .before .before .before .before .before .before .before .before .before .before .before .before
+
 choose-requires : tie.Need-choose-requires
 choose-requires c κs = search needs
 
@@ -28,7 +31,7 @@ choose-requires-2 c κs =
     let y = c .before .before .before .before .before .before .before .before .before .before in
     let x = y .before .before .before .before .before .before .before in
     let h = x .before .before .before .before .before .before .before in
-    let s = h .before .before .before .before .before .before .before .before .before .before .before .before .before .before .before in (
+    let s = start h in (
       record {
         p-long = x .log-read .kept .1 .1 .1 .0 ∙ s .pre .0 .p-long ∙ sym (x .log-read .kept .1 .1 .0);
         e-long = y .log-read2 .kept .1 .1 .0 ∙ s .pre .0 .e-long ∙ sym (x .log-read .kept .1 .1 .0);
@@ -70,7 +73,7 @@ returns c =
     let y = g .before .before .before .before .before .before .before .before .before .before .before in
     let x = y .before .before .before .before .before .before .before in
     let h = x .before .before .before .before .before .before .before in
-    let s = h .before .before .before .before .before .before .before .before .before .before .before .before .before .before .before in
+    let s = start h in
     let a = s .args in
     let n : ℕ = length (a .d .now) in
     let d : List ℕ = x .log-read .last .1 .1 .0 in
