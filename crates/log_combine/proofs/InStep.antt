@@ -4,14 +4,13 @@ use mathlib.Core.Bool.{Bool, cond, _||_}
 use mathlib.Core.List.{List, _++_, append-nil}
 use Prim.Native.Nat.{ℕ, _+_, _-_, _*_, _/_, _<_, _≤_}
 use native.Mathlib.Omega.{arith}
-use lib.Dec.{ltb}
-use lib.ListN.{length, getD, length-append, drop-of-length-le, List·getD-append}
+use lib.ListN.{set, length, getD, length-append, drop-of-length-le, List·getD-append}
 use lib.Seq.{getD-append-add}
-use borrow.Author.Tests.{le-ltb, ltb-false}
-use Rattle.laws.specs.Lists.{tab, joined}
+use borrow.Author.Tests.{le-ltb}
+use Rattle.laws.specs.Lists.{splice, tab, joined}
 use Rattle.laws.specs.Tests.{differ, tally}
-use Rattle.laws.proofs.Tabs.{length-tab, getD-tab, joined-next}
-use Rattle.laws.proofs.Tests.{by-test}
+use Rattle.laws.proofs.Lists.{getD-past}
+use Rattle.laws.proofs.Tabs.{length-tab, getD-tab, tab-ext, fill-next, joined-next}
 use Rattle.low_first.specs.LowFirst.{lowTwo}
 use Rattle.laws.specs.Bits.{width}
 use Rattle.log_model.specs.Format.{hopOf, before, changed, hopAt}
@@ -27,10 +26,10 @@ use Rattle.combine_model.specs.Choose.{isSecond, chosenAt, selected}
 use Rattle.combine_model.specs.Combined.{hopCount, dbOf, powerOf, dbChosen, powerChosen, combinedLog, Paired}
 use Rattle.log_model.specs.Answers.{placeAfter}
 use Rattle.combine_choose.specs.Lent.{Lent}
-use Rattle.log_combine.specs.Passes.{Ready}
-use Rattle.combine_model.proofs.Chosen.{cond-same, selected-at, length-selected}
+use Rattle.log_combine.specs.Passes.{secondHalf, Ready}
+use Rattle.combine_model.proofs.Chosen.{selected-at, length-selected}
 use Rattle.combine_model.proofs.Taken.{hops-of, log-is}
-use Rattle.combine_model.proofs.Theorems.{count-tells}
+use Rattle.combine_model.proofs.Theorems.{count-tells, takes}
 use Rattle.log_hops.specs.Put.{put}
 use Rattle.log_hops.proofs.Puts.{put-next, put-front}
 
@@ -40,6 +39,14 @@ two-halves n p q l m k e f g h i =
     i ∙ put-next 0 n n p q l m e (omega arith) h (omega arith) ∙ put-front (p ++ q) l
     ∙ ap (λ (r : List ℕ). (p ++ q) ++ r) (drop-of-length-le l (let z : length l ≤ length (p ++ q) = omega (arith, length-append p q) in z))
     ∙ append-nil (p ++ q)
+
+-- one place more of the second half was copied to the first
+pub back-next : (n k : ℕ) (l₀ l : List ℕ) → k < n → length l₀ ≡ n + n → l ≡ splice 0 k l₀ (tab k (λ i. getD l₀ (n + i) 0))
+    → set l k (getD l (n + k) 0) ≡ splice 0 (k + 1) l₀ (tab (k + 1) (λ i. getD l₀ (n + i) 0))
+back-next n k l₀ l h e f =
+    fill-next 0 k k l₀ l (λ i. getD l₀ (n + i) 0) (getD l (n + k) 0) (omega arith) (omega arith) f
+    (ap (λ (r : List ℕ). getD r (n + k) 0) f
+    ∙ getD-past 0 k l₀ (tab k (λ i. getD l₀ (n + i) 0)) (n + k) 0 (length-tab k (λ i. getD l₀ (n + i) 0)) (omega arith) (omega arith))
 
 -- ---- one log: hop j is next, and the slices hold the hop before it
 
@@ -102,26 +109,6 @@ module _ (n : ℕ) (P Q D E : List ℕ) where
       at : (l : List ℕ) → getD (hopOn n j l) k 0 ≡ getD l (n * j + k) 0
       at r = getD-tab n (λ k. getD r (n * j + k) 0) k 0 l
 
-  -- of what stood before place i
-  before-chosen : (i : ℕ) → i < length D + n → cond (isSecond (before n P i) (before n Q i)) (before n E i) (before n D i) ≡ before n (selected P Q D E) i
-  before-chosen i m =
-      by-test (ltb i n)
-      (λ t.
-      (λ x. cond (isSecond (cond (t x) 0 (getD P (i - n) 0)) (cond (t x) 0 (getD Q (i - n) 0))) (cond (t x) 0 (getD E (i - n) 0)) (cond (t x) 0 (getD D (i - n) 0)))
-      ∙ cond-same (isSecond 0 0) 0
-      ∙ sym (ap (λ (b : Bool). cond b 0 (getD (selected P Q D E) (i - n) 0)) t))
-      (λ t.
-      (λ x. cond (isSecond (cond (t x) 0 (getD P (i - n) 0)) (cond (t x) 0 (getD Q (i - n) 0))) (cond (t x) 0 (getD E (i - n) 0)) (cond (t x) 0 (getD D (i - n) 0)))
-      ∙ sym (selected-at P Q D E (i - n) (let z : n ≤ i = ltb-false i n t in omega arith))
-      ∙ sym (ap (λ (b : Bool). cond b 0 (getD (selected P Q D E) (i - n) 0)) t))
-
-  pub chosen-was : (j k : ℕ) → k < n → n * j + k < length D → chosenAt (beforeOn n j P) (beforeOn n j Q) (beforeOn n j D) (beforeOn n j E) k ≡ before n (selected P Q D E) (n * j + k)
-  chosen-was j k l m =
-      (λ i. cond (isSecond (at P i) (at Q i)) (at E i) (at D i)) ∙ before-chosen (n * j + k) (omega arith)
-    where
-      at : (l : List ℕ) → getD (beforeOn n j l) k 0 ≡ before n l (n * j + k)
-      at r = getD-tab n (λ k. before n r (n * j + k)) k 0 l
-
 -- ---- the selection of both: hop j of S and T behind the hop before it
 
 pub record Shown (n : ℕ) (S T : List ℕ) (j : ℕ) (db power : List ℕ) : Type 0 where
@@ -129,6 +116,9 @@ pub record Shown (n : ℕ) (S T : List ℕ) (j : ℕ) (db power : List ℕ) : Ty
   pub power-now : (k : ℕ) → k < n → getD power (n + k) 0 ≡ getD T (n * j + k) 0
   pub db-was : (k : ℕ) → k < n → before n db (n + k) ≡ before n S (n * j + k)
   pub power-was : (k : ℕ) → k < n → before n power (n + k) ≡ before n T (n * j + k)
+
+two-tabs : (m n : ℕ) (f g : ℕ → ℕ) → m ≡ n → length (tab m f ++ tab m g) ≡ n + n
+two-tabs m n f g e = length-append (tab m f) (tab m g) ∙ omega (arith, e, length-tab m f, length-tab m g)
 
 module _ (n : ℕ) (f g : ℕ → ℕ) (k : ℕ) (l : k < n) where
   second-half : getD (tab n f ++ tab n g) (n + k) 0 ≡ g k
@@ -168,13 +158,14 @@ module _ (a b : List ℕ) (h : ℕ) (f : Below 256 a) (g : Below 256 b) (w : Pai
   alike : length (powerOf a) ≡ length (dbOf a)
   alike = hops-of a f (count-tells a h (w .count-a) .0) .alike
 
-  pub shown : (d' p' e' q' db power : List ℕ)
+  pub shown : (db power : List ℕ) → secondHalf n db ≡ beforeOn n j (dbChosen a b) → secondHalf n power ≡ beforeOn n j (powerChosen a b)
+      → (d' p' e' q' db' power' : List ℕ)
       → (d' ≡ readHop a x d p .1) × (p' ≡ readHop a x d p .2) → (e' ≡ readHop b y e q .1) × (q' ≡ readHop b y e q .2)
-      → db ≡ tab (length d) (chosenAt p q d e) ++ tab (length d) (chosenAt p' q' d' e')
-      → power ≡ tab (length d) (chosenAt p q p q) ++ tab (length d) (chosenAt p' q' p' q')
-      → Shown n (dbChosen a b) (powerChosen a b) j db power
+      → db' ≡ secondHalf (length d) db ++ tab (length d) (chosenAt p' q' d' e')
+      → power' ≡ secondHalf (length d) power ++ tab (length d) (chosenAt p' q' p' q')
+      → Shown n (dbChosen a b) (powerChosen a b) j db' power'
   unfolding dbChosen powerChosen
-  shown d' p' e' q' db power u v y1 z1 =
+  shown db power was was' d' p' e' q' db' power' u v y1 z1 =
       let ra = reads a n h f (w .count-a) refl j x d p l s in
       let rb = reads b n h g (w .count-b) (sym (w .same-n)) j y e q l t in
       let wide : length d ≡ n = ap length (s .db-is) ∙ length-tab n _ in
@@ -186,15 +177,15 @@ module _ (a b : List ℕ) (h : ℕ) (f : Below 256 a) (g : Below 256 b) (w : Pai
       let p2 : p' ≡ hopOn n j P = u .1 ∙ ap (λ (r : Reading). r .2) ra in
       let e2 : e' ≡ hopOn n j E = v .0 ∙ ap (λ (r : Reading). r .1) rb in
       let q2 : q' ≡ hopOn n j Q = v .1 ∙ ap (λ (r : Reading). r .2) rb in
-      let db2 : db ≡ tab n (chosenAt (beforeOn n j P) (beforeOn n j Q) (beforeOn n j D) (beforeOn n j E)) ++ tab n (chosenAt (hopOn n j P) (hopOn n j Q) (hopOn n j D) (hopOn n j E))
-      = y1 ∙ (λ i. tab (wide i) (chosenAt (s .power-is i) (t .power-is i) (s .db-is i) (t .db-is i)) ++ tab (wide i) (chosenAt (p2 i) (q2 i) (d2 i) (e2 i))) in
-      let pw2 : power ≡ tab n (chosenAt (beforeOn n j P) (beforeOn n j Q) (beforeOn n j P) (beforeOn n j Q)) ++ tab n (chosenAt (hopOn n j P) (hopOn n j Q) (hopOn n j P) (hopOn n j Q))
-      = z1 ∙ (λ i. tab (wide i) (chosenAt (s .power-is i) (t .power-is i) (s .power-is i) (t .power-is i)) ++ tab (wide i) (chosenAt (p2 i) (q2 i) (p2 i) (q2 i))) in
+      let db2 : db' ≡ beforeOn n j (dbChosen a b) ++ tab n (chosenAt (hopOn n j P) (hopOn n j Q) (hopOn n j D) (hopOn n j E))
+      = y1 ∙ (λ i. secondHalf (wide i) db ++ tab (wide i) (chosenAt (p2 i) (q2 i) (d2 i) (e2 i))) ∙ ap (λ (r : List ℕ). r ++ tab n (chosenAt (hopOn n j P) (hopOn n j Q) (hopOn n j D) (hopOn n j E))) was in
+      let pw2 : power' ≡ beforeOn n j (powerChosen a b) ++ tab n (chosenAt (hopOn n j P) (hopOn n j Q) (hopOn n j P) (hopOn n j Q))
+      = z1 ∙ (λ i. secondHalf (wide i) power ++ tab (wide i) (chosenAt (p2 i) (q2 i) (p2 i) (q2 i))) ∙ ap (λ (r : List ℕ). r ++ tab n (chosenAt (hopOn n j P) (hopOn n j Q) (hopOn n j P) (hopOn n j Q))) was' in
       record {
         db-now = λ k m. ap (λ (r : List ℕ). getD r (n + k) 0) db2 ∙ second-half n _ _ k m ∙ chosen-now n P Q D E j k m (within k m);
         power-now = λ k m. ap (λ (r : List ℕ). getD r (n + k) 0) pw2 ∙ second-half n _ _ k m ∙ chosen-now n P Q P Q j k m (omega (arith, within k m, alike));
-        db-was = λ k m. ap (λ (r : List ℕ). before n r (n + k)) db2 ∙ first-half n _ _ k m ∙ chosen-was n P Q D E j k m (within k m);
-        power-was = λ k m. ap (λ (r : List ℕ). before n r (n + k)) pw2 ∙ first-half n _ _ k m ∙ chosen-was n P Q P Q j k m (omega (arith, within k m, alike));
+        db-was = λ k m. ap (λ (r : List ℕ). before n r (n + k)) db2 ∙ first-half n _ _ k m;
+        power-was = λ k m. ap (λ (r : List ℕ). before n r (n + k)) pw2 ∙ first-half n _ _ k m;
       }
 
 -- ---- a pass over both: j hops are behind it
@@ -208,6 +199,8 @@ pub record Walk (a b : List ℕ) (h x y len j : ℕ) (d p e q db power : List �
   pub second : Stands b (lowTwo a 0) j y e q
   pub db-long : length db ≡ lowTwo a 0 + lowTwo a 0
   pub power-long : length power ≡ lowTwo a 0 + lowTwo a 0
+  pub db-was : secondHalf (lowTwo a 0) db ≡ beforeOn (lowTwo a 0) j (dbChosen a b)
+  pub power-was : secondHalf (lowTwo a 0) power ≡ beforeOn (lowTwo a 0) j (powerChosen a b)
   pub len-is : len ≡ 2 + length (joined (tab j (chosenHop a b)))
 
 -- the slices of a log are n long
@@ -217,15 +210,26 @@ stands-long log n j at db power s = (ap length (s .db-is) ∙ length-tab n _, ap
 pub zeros-are : (n : ℕ) (l : List ℕ) → l ≡ tab n (λ _. 0) → length l ≡ n
 zeros-are n l e = ap length e ∙ length-tab n (λ _. 0)
 
+-- and so is their second half zero
+zeros-half : (n : ℕ) (l : List ℕ) → l ≡ tab (n + n) (λ _. 0) → secondHalf n l ≡ tab n (λ _. 0)
+zeros-half n l e =
+    tab-ext n (λ k. getD l (n + k) 0) (λ _. 0) (λ k h. ap (λ (r : List ℕ). getD r (n + k) 0) e ∙ getD-tab (n + n) (λ _. 0) (n + k) 0 (omega arith))
+
 module _ (a b : List ℕ) (h : ℕ) (f : Below 256 a) (g : Below 256 b) (w : Paired a b h) where
   pub walk-begins : (d p e q db power : List ℕ) → Ready a b h d p e q db power → Walk a b h 2 2 2 0 d p e q db power
   walk-begins d p e q db power r =
+      let n : ℕ = lowTwo a 0 in
+      let S : List ℕ = dbChosen a b in
+      let T : List ℕ = powerChosen a b in
+      let t = takes a b h f g w in
       record {
         upto = omega arith;
         first = stands-first a (lowTwo a 0) h f (w .count-a) refl d p (r .lent .d-zero) (r .lent .p-zero);
         second = stands-first b (lowTwo a 0) h g (w .count-b) (sym (w .same-n)) e q (r .lent .e-zero) (r .lent .q-zero);
-        db-long = r .lent .db-long;
-        power-long = r .lent .power-long;
+        db-long = zeros-are (n + n) db (r .lent .db-zero);
+        power-long = zeros-are (n + n) power (r .lent .power-zero);
+        db-was = zeros-half n db (r .lent .db-zero) ∙ first-before n S T t S;
+        power-was = zeros-half n power (r .lent .power-zero) ∙ first-before n S T t T;
         len-is = refl;
       }
 
@@ -258,22 +262,27 @@ module _ (a b : List ℕ) (h : ℕ) (f : Below 256 a) (g : Below 256 b) (w : Pai
         (places : (x' ≡ placeAfter (readHop a x d p .0) x) × (y' ≡ placeAfter (readHop b y e q .0) y))
         (ones : (d' ≡ readHop a x d p .1) × (p' ≡ readHop a x d p .2))
         (twos : (e' ≡ readHop b y e q .1) × (q' ≡ readHop b y e q .2))
-        (dbs : db' ≡ tab (length d) (chosenAt p q d e) ++ tab (length d) (chosenAt p' q' d' e'))
-        (powers : power' ≡ tab (length d) (chosenAt p q p q) ++ tab (length d) (chosenAt p' q' p' q')) where
+        (dbs : db' ≡ secondHalf (length d) db ++ tab (length d) (chosenAt p' q' d' e'))
+        (powers : power' ≡ secondHalf (length d) power ++ tab (length d) (chosenAt p' q' p' q')) where
       pub walk-shows : Shown (lowTwo a 0) (dbChosen a b) (powerChosen a b) j db' power'
-      walk-shows = shown a b h f g w j l x y d p e q (v .first) (v .second) d' p' e' q' db' power' ones twos dbs powers
+      walk-shows = shown a b h f g w j l x y d p e q (v .first) (v .second) db power (v .db-was) (v .power-was) d' p' e' q' db' power' ones twos dbs powers
 
       pub walk-next : (len' : ℕ) → len' ≡ len + (width (lowTwo a 0) + 12 * tally (lowTwo a 0) (λ k. changed (lowTwo a 0) db' power' (lowTwo a 0 + k)))
           → Walk a b h x' y' len' (j + 1) d' p' e' q' db' power'
       walk-next len' i =
           let n : ℕ = lowTwo a 0 in
+          let S : List ℕ = dbChosen a b in
+          let T : List ℕ = powerChosen a b in
           let s = stands-long a n j x d p (v .first) in
+          let t = takes a b h f g w in
           record {
             upto = omega arith;
             first = stands-next a n h f (w .count-a) refl j x d p l (v .first) x' d' p' (places .0) (ones .0) (ones .1);
             second = stands-next b n h g (w .count-b) (sym (w .same-n)) j y e q l (v .second) y' e' q' (places .1) (twos .0) (twos .1);
-            db-long = ap length dbs ∙ length-append (tab (length d) (chosenAt p q d e)) (tab (length d) (chosenAt p' q' d' e')) ∙ omega (arith, s .0, length-tab (length d) (chosenAt p q d e), length-tab (length d) (chosenAt p' q' d' e'));
-            power-long = ap length powers ∙ length-append (tab (length d) (chosenAt p q p q)) (tab (length d) (chosenAt p' q' p' q')) ∙ omega (arith, s .0, length-tab (length d) (chosenAt p q p q), length-tab (length d) (chosenAt p' q' p' q'));
+            db-long = ap length dbs ∙ two-tabs (length d) n (λ k. getD db (length d + k) 0) (chosenAt p' q' d' e') (s .0);
+            power-long = ap length powers ∙ two-tabs (length d) n (λ k. getD power (length d + k) 0) (chosenAt p' q' p' q') (s .0);
+            db-was = tab-ext n (λ k. getD db' (n + k) 0) (λ k. getD S (n * j + k) 0) (walk-shows .db-now) ∙ next-before n S T t j S;
+            power-was = tab-ext n (λ k. getD power' (n + k) 0) (λ k. getD T (n * j + k) 0) (walk-shows .power-now) ∙ next-before n S T t j T;
             len-is =
                 omega (
                   arith,

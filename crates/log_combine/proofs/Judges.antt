@@ -26,7 +26,7 @@ use Rattle.combine_model.proofs.Taken.{began, log-is}
 use Rattle.combine_model.proofs.Theorems.{count-tells}
 use Rattle.log_combine.specs.declared.Fit.{Fit}
 use Rattle.log_combine.specs.declared.Fit.the-variants.{Fits, Not}
-use Rattle.log_combine.specs.Passes.{Slices, Judged}
+use Rattle.log_combine.specs.Passes.{secondHalf, Slices, Judged}
 use Rattle.log_combine.proofs.Counts.{Counting, begins, onto, next-counts, end-counts}
 use Rattle.log_combine.proofs.InStep.{Stands, placeOf, reads, Walk, walk-begins, walk-shows, walk-next, shown-tally, combined-parts, combined-within}
 
@@ -114,8 +114,8 @@ module _ (a b : List ℕ) (f : Below 256 a) (g : Below 256 b) (sa : startRefusal
         (places : (x' ≡ placeAfter (readHop a x d p .0) x) × (y' ≡ placeAfter (readHop b y e q .0) y))
         (ones : (d' ≡ readHop a x d p .1) × (p' ≡ readHop a x d p .2))
         (twos : (e' ≡ readHop b y e q .1) × (q' ≡ readHop b y e q .2))
-        (dbs : db' ≡ tab (length d) (chosenAt p q d e) ++ tab (length d) (chosenAt p' q' d' e'))
-        (powers : power' ≡ tab (length d) (chosenAt p q p q) ++ tab (length d) (chosenAt p' q' p' q'))
+        (dbs : db' ≡ secondHalf (length d) db ++ tab (length d) (chosenAt p' q' d' e'))
+        (powers : power' ≡ secondHalf (length d) power ++ tab (length d) (chosenAt p' q' p' q'))
         (more : ℕ) (more-is : more ≡ width n + 12 * tally n (λ k. changed n db' power' (n + k))) where
       next-hop : (h : ℕ) → Paired a b h → hops < h
       next-hop h w = let u = v .walk h w in stands-before a n h f (w .count-a) refl hops x d p (u .first) (u .upto) (before-tells x (length a) y (length b) before .0)

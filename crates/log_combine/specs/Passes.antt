@@ -3,7 +3,7 @@ use mathlib.Core.Path.{_≡_}
 use mathlib.Core.Bool.{Bool, cond, _||_}
 use mathlib.Core.List.{List}
 use Prim.Native.Nat.{ℕ, _+_, _<_, _≤_}
-use lib.ListN.{length}
+use lib.ListN.{length, getD}
 use Rattle.laws.specs.Lists.{tab}
 use Rattle.laws.specs.Tests.{differ}
 use Rattle.low_first.specs.LowFirst.{lowTwo}
@@ -14,14 +14,18 @@ use Rattle.combine_model.specs.Combined.{combinedLog, Paired}
 use Rattle.log_combine.specs.declared.Fit.{Fit}
 use Rattle.log_combine.specs.declared.Fit.the-variants.{Fits, Not}
 
--- slices to read two logs of n channels in step: zeros for each log, and room for two hops of the selection
+-- the second of a list's two halves
+abbrev pub secondHalf : ℕ → List ℕ → List ℕ
+secondHalf n l = tab n (λ k. getD l (n + k) 0)
+
+-- slices to read two logs of n channels in step: a hop of zeros for each log, and two for the selection
 pub record Slices (n : ℕ) (d p e q db power : List ℕ) : Type 0 where
   pub d-zero : d ≡ tab n (λ _. 0)
   pub p-zero : p ≡ tab n (λ _. 0)
   pub e-zero : e ≡ tab n (λ _. 0)
   pub q-zero : q ≡ tab n (λ _. 0)
-  pub db-long : length db ≡ n + n
-  pub power-long : length power ≡ n + n
+  pub db-zero : db ≡ tab (n + n) (λ _. 0)
+  pub power-zero : power ≡ tab (n + n) (λ _. 0)
 
 -- before the first pass: both headers passed, with the first log's n, and there is room for the result's header
 pub record Begun (a b : List ℕ) (room : ℕ) (d p e q db power : List ℕ) : Type 0 where

@@ -19,7 +19,7 @@ ghost use Rattle.combine_model.specs.Choose.{chosenAt};
 ghost use Rattle.combine_model.specs.Combined.{hopCount, combinedLog, Paired, combined};
 ghost use Rattle.combine_choose.specs.Lent.{Lent};
 ghost use Rattle.log_combine.specs.declared.Fit.the-variants.{Fits, Not};
-ghost use Rattle.log_combine.specs.Passes.{Begun, Ready, Judged, alikeNo, noOf};
+ghost use Rattle.log_combine.specs.Passes.{secondHalf, Begun, Ready, Judged, alikeNo, noOf};
 use combine_model::HopCount;
 use log_model::LogLength;
 use log_model::LogRead;
@@ -38,7 +38,19 @@ pub struct Places {
 
 // ---- both in step
 
-// One hop on in both logs: `db` and `power` hold the selection before it, and behind that the selection after it.
+// What stands in the second halves goes to the first.
+fn step_back(n: usize, db: &mut [u64], power: &mut [u32])
+    requires { ⌜ (length (now db) ≡ n + n) × (length (now power) ≡ n + n) ⌝ }
+    ensures { λ _. ⌜ (now (db .exit) ≡ put 0 (secondHalf n (now (db .entry))) (now (db .entry))) × (now (power .exit) ≡ put 0 (secondHalf n (now (power .entry))) (now (power .entry))) ⌝ }
+{
+    for k in 0..n {
+        db[k] = db[n + k];
+        power[k] = power[n + k];
+    }
+}
+
+// One hop on in both logs. The selection that stood in the second halves of `db` and `power` stands in the first then, and behind it
+// the selection after this hop.
 fn turn(
     first: &[u8],
     second: &[u8],
@@ -56,11 +68,11 @@ fn turn(
     ensures { λ r. ⌜ (r .first ≡ placeAfter (readHop (now (first .entry)) x (now (d .entry)) (now (p .entry)) .0) x) × (r .second ≡ placeAfter (readHop (now (second .entry)) y (now (e .entry)) (now (q .entry)) .0) y) ⌝ }
     ensures { λ _. ⌜ (now (d .exit) ≡ readHop (now (first .entry)) x (now (d .entry)) (now (p .entry)) .1) × (now (p .exit) ≡ readHop (now (first .entry)) x (now (d .entry)) (now (p .entry)) .2) ⌝ }
     ensures { λ _. ⌜ (now (e .exit) ≡ readHop (now (second .entry)) y (now (e .entry)) (now (q .entry)) .1) × (now (q .exit) ≡ readHop (now (second .entry)) y (now (e .entry)) (now (q .entry)) .2) ⌝ }
-    ensures { λ _. ⌜ now (db .exit) ≡ tab (length (now (d .entry))) (chosenAt (now (p .entry)) (now (q .entry)) (now (d .entry)) (now (e .entry))) ++ tab (length (now (d .entry))) (chosenAt (now (p .exit)) (now (q .exit)) (now (d .exit)) (now (e .exit))) ⌝ }
-    ensures { λ _. ⌜ now (power .exit) ≡ tab (length (now (d .entry))) (chosenAt (now (p .entry)) (now (q .entry)) (now (p .entry)) (now (q .entry))) ++ tab (length (now (d .entry))) (chosenAt (now (p .exit)) (now (q .exit)) (now (p .exit)) (now (q .exit))) ⌝ }
+    ensures { λ _. ⌜ now (db .exit) ≡ secondHalf (length (now (d .entry))) (now (db .entry)) ++ tab (length (now (d .entry))) (chosenAt (now (p .exit)) (now (q .exit)) (now (d .exit)) (now (e .exit))) ⌝ }
+    ensures { λ _. ⌜ now (power .exit) ≡ secondHalf (length (now (d .entry))) (now (power .entry)) ++ tab (length (now (d .entry))) (chosenAt (now (p .exit)) (now (q .exit)) (now (p .exit)) (now (q .exit))) ⌝ }
 {
-    combine_choose::choose(d, p, e, q, 0, db, power);
     let n = d.len();
+    step_back(n, db, power);
     let one = log_read::log_read(first, x, d, p);
     let two = log_read::log_read(second, y, e, q);
     combine_choose::choose(d, p, e, q, n, db, power);

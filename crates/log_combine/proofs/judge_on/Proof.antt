@@ -48,6 +48,13 @@ long l =
     let i = l .loop .inv in
     (i .0 ∙ zeros-are (n l) (a .d .now) (s .d-zero), (i .1 .0 ∙ zeros-are (n l) (a .p .now) (s .p-zero), (i .1 .1 .0 ∙ zeros-are (n l) (a .e .now) (s .e-zero), i .1 .1 .1 .0 ∙ zeros-are (n l) (a .q .now) (s .q-zero))))
 
+two-long : (l : tie.At-loop Inv-loop μ-loop) → (length (l .loop .db) ≡ n l + n l) × (length (l .loop .power) ≡ n l + n l)
+two-long l =
+    let a = start (known l) .args in
+    let s = start (known l) .pre .lent in
+    let i = l .loop .inv in
+    (i .1 .1 .1 .1 .0 ∙ zeros-are (n l + n l) (a .db .now) (s .db-zero), i .1 .1 .1 .1 .1 .0 ∙ zeros-are (n l + n l) (a .power .now) (s .power-zero))
+
 few : (l : tie.At-loop Inv-loop μ-loop) → n l ≤ 512
 few l =
     let k = known l in
@@ -90,11 +97,9 @@ is-before-requires c κs = search needs
 turn-requires : tie.Need-turn-requires Inv-loop μ-loop
 turn-requires c κs =
     let l = c .before .before .before .before .before .before .before .before in
-    let s = start (known l) .pre .lent in
-    let i = l .loop .inv in
     let o = long l in (
       record { p-long = o .1 .0 ∙ sym (o .0); e-long = o .1 .1 .0 ∙ sym (o .0); q-long = o .1 .1 .1 ∙ sym (o .0) },
-      (omega (arith, o .0, i .1 .1 .1 .1 .0, s .db-long), omega (arith, o .0, i .1 .1 .1 .1 .1 .0, s .power-long)),
+      (omega (arith, o .0, two-long l .0), omega (arith, o .0, two-long l .1)),
     )
 
 abbrev before-of : tie.After-turn Inv-loop μ-loop → tie.Then1 Inv-loop μ-loop
@@ -111,10 +116,9 @@ hop-len-requires : tie.Need-hop-len-requires Inv-loop μ-loop
 hop-len-requires c κs =
     let t = c .before .before .before .before .before .before .before .before .before .before .before .before .before .before in
     let l = loop-of t in
-    let s = start (known l) .pre .lent in
     let i = l .loop .inv in
     let z = t .turn .kept .1 .1 .1 .1 .1 .1 .1 .1 in
-    (omega (arith, few l, i .1 .1 .1 .1 .1 .1 .0), (omega (arith, z .0, i .1 .1 .1 .1 .0, s .db-long, i .1 .1 .1 .1 .1 .1 .0), omega (arith, z .1 .0, i .1 .1 .1 .1 .1 .0, s .power-long, i .1 .1 .1 .1 .1 .1 .0)))
+    (omega (arith, few l, i .1 .1 .1 .1 .1 .1 .0), (omega (arith, z .0, two-long l .0, i .1 .1 .1 .1 .1 .1 .0), omega (arith, z .1 .0, two-long l .1, i .1 .1 .1 .1 .1 .1 .0)))
 
 abbrev turned : tie.After-hop-len Inv-loop μ-loop → tie.After-turn Inv-loop μ-loop
 turned c = c .before .before .before .before .before .before .before .before .before .before .before .before .before .before .before

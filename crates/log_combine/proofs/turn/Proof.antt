@@ -9,16 +9,17 @@ use Rattle.log_model.specs.Whole.{Reading}
 use Rattle.log_hops.specs.Put.{put}
 use Rattle.combine_model.specs.Choose.{chosenAt}
 use Rattle.log_model.specs.Answers.{placeAfter}
+use Rattle.log_combine.specs.Passes.{secondHalf}
 use Rattle.log_combine.proofs.InStep.{two-halves}
 use borrow.Author.Needs.{needs}
 use Rattle.log_combine.proofs.turn.Statement.{statement}
 use Rattle.log_combine.proofs.turn.Tie as tie
 
-abbrev start : tie.After-choose → tie.Start
-start h = h .before .before .before .before .before .before .before .before .before .before .before .before .before .before .before
+abbrev start : tie.After-step-back → tie.Start
+start h = h .before .before .before .before .before .before .before .before .before .before .before
 
-choose-requires : tie.Need-choose-requires
-choose-requires c κs = search needs
+step-back-requires : tie.Need-step-back-requires
+step-back-requires c κs = search needs
 
 log-read-requires : tie.Need-log-read-requires
 log-read-requires c κs = search needs
@@ -26,8 +27,8 @@ log-read-requires c κs = search needs
 log-read-requires-2 : tie.Need-log-read-requires-2
 log-read-requires-2 c κs = search needs
 
-choose-requires-2 : tie.Need-choose-requires-2
-choose-requires-2 c κs =
+choose-requires : tie.Need-choose-requires
+choose-requires c κs =
     let y = c .before .before .before .before .before .before .before .before .before .before in
     let x = y .before .before .before .before .before .before .before in
     let h = x .before .before .before .before .before .before .before in
@@ -38,8 +39,8 @@ choose-requires-2 c κs =
         q-long = y .log-read2 .kept .1 .1 .1 .0 ∙ s .pre .0 .q-long ∙ sym (x .log-read .kept .1 .1 .0);
       },
       (
-        omega (arith, x .log-read .kept .1 .1 .0, s .pre .1 .0, h .choose .kept .1 .1 .1 .1 .1 .0),
-        omega (arith, x .log-read .kept .1 .1 .0, s .pre .1 .1, h .choose .kept .1 .1 .1 .1 .1 .1 .0),
+        omega (arith, x .log-read .kept .1 .1 .0, s .pre .1 .0, h .step-back .kept .1 .0),
+        omega (arith, x .log-read .kept .1 .1 .0, s .pre .1 .1, h .step-back .kept .1 .1 .0),
       ),
     )
 
@@ -93,10 +94,10 @@ returns c =
         (
           (ap (λ (r : Reading). r .1) two, ap (λ (r : Reading). r .2) two),
           (
-            two-halves n (tab n (chosenAt (a .p .now) (a .q .now) (a .d .now) (a .e .now))) (tab n (chosenAt p q d e)) (a .db .now) (h .choose .last .1 .1 .1 .1 .1 .0) (g .choose2 .last .1 .1 .1 .1 .1 .0)
-                (length-tab n _) (length-tab n _) (s .pre .1 .0) (h .choose .ensures .0) (g .choose2 .ensures .0 ∙ ap (λ (r : List ℕ). put n r (h .choose .last .1 .1 .1 .1 .1 .0)) (after (chosenAt p q d e))),
-            two-halves n (tab n (chosenAt (a .p .now) (a .q .now) (a .p .now) (a .q .now))) (tab n (chosenAt p q p q)) (a .power .now) (h .choose .last .1 .1 .1 .1 .1 .1 .0) (g .choose2 .last .1 .1 .1 .1 .1 .1 .0)
-                (length-tab n _) (length-tab n _) (s .pre .1 .1) (h .choose .ensures .1) (g .choose2 .ensures .1 ∙ ap (λ (r : List ℕ). put n r (h .choose .last .1 .1 .1 .1 .1 .1 .0)) (after (chosenAt p q p q))),
+            two-halves n (secondHalf n (a .db .now)) (tab n (chosenAt p q d e)) (a .db .now) (h .step-back .last .1 .0) (g .choose .last .1 .1 .1 .1 .1 .0)
+                (length-tab n _) (length-tab n _) (s .pre .1 .0) (h .step-back .ensures .0) (g .choose .ensures .0 ∙ ap (λ (r : List ℕ). put n r (h .step-back .last .1 .0)) (after (chosenAt p q d e))),
+            two-halves n (secondHalf n (a .power .now)) (tab n (chosenAt p q p q)) (a .power .now) (h .step-back .last .1 .1 .0) (g .choose .last .1 .1 .1 .1 .1 .1 .0)
+                (length-tab n _) (length-tab n _) (s .pre .1 .1) (h .step-back .ensures .1) (g .choose .ensures .1 ∙ ap (λ (r : List ℕ). put n r (h .step-back .last .1 .1 .0)) (after (chosenAt p q p q))),
           ),
         ),
       ),
@@ -106,10 +107,10 @@ pub turn-spec : {M : Type 1} → statement M
 turn-spec =
     tie.close
     (tie.spec
-    choose-requires
+    step-back-requires
     log-read-requires
     log-read-requires-2
-    choose-requires-2
+    choose-requires
     place-after-requires
     place-after-requires-2
     same-length

@@ -206,12 +206,16 @@ same-length-5 c =
 same-length-6 : tie.Need-same-length-6 Inv-loop μ-loop
 same-length-6 c =
     let l = c .before in
-    l .loop .inv .1 .1 .1 .db-long ∙ sym (start (known l) .pre .0 .lent .db-long)
+    let s = start (known l) in
+    let n : ℕ = lowTwo (s .args .first .now) 0 in
+    l .loop .inv .1 .1 .1 .db-long ∙ sym (zeros-are (n + n) (s .args .db .now) (s .pre .0 .lent .db-zero))
 
 same-length-7 : tie.Need-same-length-7 Inv-loop μ-loop
 same-length-7 c =
     let l = c .before in
-    l .loop .inv .1 .1 .1 .power-long ∙ sym (start (known l) .pre .0 .lent .power-long)
+    let s = start (known l) in
+    let n : ℕ = lowTwo (s .args .first .now) 0 in
+    l .loop .inv .1 .1 .1 .power-long ∙ sym (zeros-are (n + n) (s .args .power .now) (s .pre .0 .lent .power-zero))
 
 returns : tie.Need-returns Inv-loop μ-loop
 unfolding combinedLog logOf
