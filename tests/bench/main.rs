@@ -1,16 +1,17 @@
 // How long a call takes, beside floor.rs and beside one reading of the u16 store. Every number is the median of many calls.
+mod antennas;
 #[path = "../compare/build/channelizer.rs"]
 mod channelizer;
 #[allow(dead_code)]
 #[path = "../compare/build/floor.rs"]
 mod floor;
-#[path = "../compare/log_rows.rs"]
-mod log_rows;
-mod antennas;
-mod logs;
 #[allow(dead_code)]
 #[path = "../compare/layout.rs"]
 mod layout;
+#[allow(dead_code)]
+#[path = "../compare/log_rows.rs"]
+mod log_rows;
+mod logs;
 #[allow(dead_code)]
 #[path = "../compare/numbers.rs"]
 mod numbers;

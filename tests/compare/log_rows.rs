@@ -22,7 +22,6 @@ pub fn write(n: usize, db: &[u64], power: &[u32], log: &mut [u8], len: &mut usiz
     unsafe { wolfcloak_log_write(n, db.as_ptr(), db.len(), power.as_ptr(), power.len(), log.as_mut_ptr(), log.len(), len) }
 }
 
-#[allow(dead_code)]
 pub fn channels(log: &[u8], n: &mut usize) -> u16 {
     unsafe { wolfcloak_log_channels(log.as_ptr(), log.len(), n) }
 }

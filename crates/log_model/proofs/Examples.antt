@@ -27,6 +27,11 @@ pub unchanged-refused : readHop (1 ∷ 0 ∷ 1 ∷ zeros 12) 2 (0 ∷ []) (0 ∷
 unfolding readHop startRefusal headerRefusal readIn hopRefusal isSet bitOf bitAt tally pairAt unchanged anyBelow lowTwo lowFour lowEight
 unchanged-refused = refl
 
+-- nothing is written up to the fault: the first of two pairs changed, the second did not
+pub nothing-written : readHop (2 ∷ 0 ∷ 3 ∷ 5 ∷ zeros 23) 2 (0 ∷ 0 ∷ []) (0 ∷ 0 ∷ []) ≡ (Refused 11, 0 ∷ 0 ∷ [], 0 ∷ 0 ∷ [])
+unfolding readHop startRefusal headerRefusal readIn hopRefusal isSet bitOf bitAt tally pairAt unchanged anyBelow lowTwo lowFour lowEight
+nothing-written = refl
+
 -- a bit past n
 pub past-refused : readHop (1 ∷ 0 ∷ 2 ∷ []) 2 (0 ∷ []) (0 ∷ []) ≡ (Refused 11, 0 ∷ [], 0 ∷ [])
 unfolding readHop startRefusal headerRefusal readIn hopRefusal isSet bitOf bitAt tally pairAt unchanged anyBelow lowTwo
