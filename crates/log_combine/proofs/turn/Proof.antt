@@ -32,16 +32,16 @@ choose-requires c κs =
     let y = c .before .before .before .before .before .before .before .before .before .before in
     let x = y .before .before .before .before .before .before .before in
     let h = x .before .before .before .before .before .before .before in
-    let s = start h in (
+    let s = start h in
+    let z = s .pre .0 in
+    let one = x .log-read .kept .1 .1 in
+    let two = y .log-read2 .kept .1 .1 in (
       record {
-        p-long = x .log-read .kept .1 .1 .1 .0 ∙ s .pre .0 .p-long ∙ sym (x .log-read .kept .1 .1 .0);
-        e-long = y .log-read2 .kept .1 .1 .0 ∙ s .pre .0 .e-long ∙ sym (x .log-read .kept .1 .1 .0);
-        q-long = y .log-read2 .kept .1 .1 .1 .0 ∙ s .pre .0 .q-long ∙ sym (x .log-read .kept .1 .1 .0);
+        p-long = omega (arith, one .0, one .1 .0, two .1 .0, z .p-long, z .q-long);
+        e-long = omega (arith, one .0, two .0, z .e-long);
+        q-long = omega (arith, one .0, one .1 .0, two .1 .0, z .p-long, z .q-long);
       },
-      (
-        omega (arith, x .log-read .kept .1 .1 .0, s .pre .1 .0, h .step-back .kept .1 .0),
-        omega (arith, x .log-read .kept .1 .1 .0, s .pre .1 .1, h .step-back .kept .1 .1 .0),
-      ),
+      (omega (arith, one .0, s .pre .1 .0, h .step-back .kept .1 .0), omega (arith, one .0, s .pre .1 .1, h .step-back .kept .1 .1 .0)),
     )
 
 place-after-requires : tie.Need-place-after-requires
