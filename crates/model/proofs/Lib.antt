@@ -34,3 +34,4 @@ pub mod BinOrder
 pub mod LouderRings
 pub mod Louder
 pub mod LouderCases
+pub mod Decibels

@@ -13,6 +13,7 @@ pub mod Windows
 pub mod Gate
 pub mod GateStores
 pub mod GateCalls
+pub mod Decibels
 pub mod Bench
 pub mod Sound
 pub mod GoodBank
