@@ -36,9 +36,18 @@ extern "C" {
 #define WOLFCLOAK_REFUSED_CHANNEL 7    /* channel number n or more */
 #define WOLFCLOAK_REFUSED_MISMATCH 8   /* bank and gate differ in n */
 #define WOLFCLOAK_REFUSED_UNSOUND 9    /* a store doesn't hold what these calls can leave in one */
+#define WOLFCLOAK_REFUSED_CUT 10       /* a log ends inside its header or a hop; a position below 2 or past the log */
+#define WOLFCLOAK_REFUSED_DAMAGED 11   /* a log has a set bit past n, or a pair that did not change */
 #define WOLFCLOAK_REFUSED_SEGMENTS 14  /* a tick: count outside 1..8, a bit set past count, or a last served not below count */
 
-/* An answer that is no refusal, with which nothing is written either. */
+/* Numbers of calls that are still to come; none of those below answers them. */
+#define WOLFCLOAK_REFUSED_SPAN 12      /* a worst floor of late over fewer than 1 or more than 600 slow hops */
+#define WOLFCLOAK_REFUSED_UNLIKE 13    /* two logs that differ in n or in their number of hops */
+#define WOLFCLOAK_REFUSED_ADDRESS 15   /* a register's address past the map */
+#define WOLFCLOAK_REFUSED_RIGHT 16     /* a role that isn't there, or one that lacks the right */
+
+/* Answers that are no refusals, with which nothing is written either. */
+#define WOLFCLOAK_END 100              /* the log has no further hop */
 #define WOLFCLOAK_NONE_WAITING 102     /* a tick: no segment has a hop waiting */
 
 /* ---- the bank: a noise floor for each of n channels, 1 to 512 ---- */
@@ -155,6 +164,40 @@ uint16_t wolfcloak_smoothed_db(const uint16_t *gate, size_t gate_len, const doub
 uint16_t wolfcloak_ema_rise(const uint16_t *bank, size_t bank_len, const double *bank_f, size_t bank_f_len,
                             const uint16_t *gate, size_t gate_len, const double *gate_f, size_t gate_f_len,
                             size_t k, double *value);
+
+/* ---- the hop log: what a set heard, hop by hop, only what changed ---- */
+
+/*
+ * A log is n in two bytes, the low one first; then for each hop a map of (n + 7) / 8 bytes, channel 0 in the lowest bit of the
+ * first, and for each set bit, in rising order, the dB (8 bytes) and the power (4 bytes) of that channel, low byte first. A bit is
+ * set exactly where the pair is another than in the hop before; before the first hop all are zero. So a hop takes at most
+ * (n + 7) / 8 + 12 * n bytes, and (n + 7) / 8 where nothing changed.
+ *
+ * dB and powers pass as the bit patterns of their floats (memcpy a double to a uint64_t, a float to a uint32_t), so that the
+ * payload of a NaN and the sign of a zero are kept. What is written reads back bit for bit, and nothing else reads to its end.
+ */
+
+/*
+ * Writes the log of the hops of n channels that stand one after another in db_bits and power_bits, hop by hop n patterns each, and
+ * *len becomes its length; bytes of log after it stay as they are. No hops make a log of two bytes.
+ * Refuses with 1 for n, with 5 unless both slices are equally long and a multiple of n, with 2 where log is too short.
+ */
+uint16_t wolfcloak_log_write(size_t n, const uint64_t *db_bits, size_t db_bits_len, const uint32_t *power_bits, size_t power_bits_len,
+                             uint8_t *log, size_t log_len, size_t *len);
+
+/* The number of channels of a log, written to *n. Refuses with 10 for a log of less than two bytes, then with 1. */
+uint16_t wolfcloak_log_channels(const uint8_t *log, size_t log_len, size_t *n);
+
+/*
+ * One hop on: the two slices, n patterns each, hold a hop and become the next one, and *position, where that one begins, becomes
+ * where the one after it begins. Start with *position = 2 and both slices all zero, and hand in what the call before left.
+ * Answers WOLFCLOAK_END, with nothing written, after the last hop.
+ * Refuses with 10 for a log of less than two bytes, 1 for its n, 5 for slices of another length, 10 for a position below 2 or past the
+ * log; then for the hop at *position alone with 10 for a cut map, 11 for a set bit past n, 10 for cut pairs, 11 for a pair that is the
+ * one that the slices hold.
+ */
+uint16_t wolfcloak_log_read(const uint8_t *log, size_t log_len, size_t *position,
+                            uint64_t *db_bits, size_t db_bits_len, uint32_t *power_bits, size_t power_bits_len);
 
 /* ---- several band segments, 1 to 8, each with a bank and a gate of its own, on one processor ---- */
 

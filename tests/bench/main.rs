@@ -8,8 +8,14 @@ mod floor;
 #[path = "../compare/layout.rs"]
 mod layout;
 #[allow(dead_code)]
+#[path = "../compare/log_rows.rs"]
+mod log_rows;
+mod logs;
+#[allow(dead_code)]
 #[path = "../compare/numbers.rs"]
 mod numbers;
+#[path = "../compare/plain_log.rs"]
+mod plain_log;
 #[path = "../compare/wolfcloak.rs"]
 mod wolfcloak;
 
@@ -181,4 +187,9 @@ fn main() {
     silence_rows(512, 600);
     gate_rows(32, 12);
     gate_rows(512, 6);
+    for n in [32, 512] {
+        for kept in [0, 90, 100] {
+            logs::rows(n, kept);
+        }
+    }
 }

@@ -11,9 +11,12 @@ mod faults;
 mod floor;
 mod history;
 mod layout;
+mod log_rows;
+mod logs;
 mod louder;
 mod numbers;
 mod pairs;
+mod plain_log;
 mod rules;
 mod rungs;
 mod runs;
@@ -31,8 +34,8 @@ use tally::Tally;
 
 const SIZES: [usize; 13] = [1, 2, 3, 4, 5, 6, 31, 32, 33, 64, 65, 511, 512];
 
-/// Job i: the making of banks and gates, the ladder and the dispatcher, two histories, two lists of which
-/// one is louder, arbitrary stores of some size, or a run of some size and plan.
+/// Job i: the making of banks and gates, the ladder, the hop logs and the dispatcher, two histories, two lists of which one is louder,
+/// arbitrary stores of some size, or a run of some size and plan.
 fn job(i: usize, seed: u64, alone: &mut Alone) -> Option<Tally> {
     let mut t = Tally::default();
     let mut rng = Rng(seed ^ (i as u64) << 32);
@@ -45,6 +48,7 @@ fn job(i: usize, seed: u64, alone: &mut Alone) -> Option<Tally> {
         bottom::every_edge(&mut t);
         rungs::each_rung(&mut t);
         rungs::any_s(&mut t, &mut rng);
+        logs::any_logs(&mut t, &mut rng);
         segments::all_ticks(&mut t);
         segments::fair_runs(&mut t, &mut rng);
         louder::no_more(&mut t);

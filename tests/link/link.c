@@ -2,6 +2,7 @@
 #include "wolfcloak.h"
 #include <stdio.h>
 #include <stdlib.h>
+#include <string.h>
 
 static int wrong;
 
@@ -166,6 +167,38 @@ static void ticks(void)
     expect("the last served as it was", last, 1);
 }
 
+/* A hop of two channels, of which one changes, and one in which nothing does: written, and read back. */
+static void hop_log(void)
+{
+    const uint64_t db[4] = {0, 0xfff8000000000001, 0, 0xfff8000000000001};
+    const uint32_t power[4] = {0, 7, 0, 7};
+    static const uint8_t due[16] = {2, 0, 2, 1, 0, 0, 0, 0, 0, 0xf8, 0xff, 7, 0, 0, 0, 0};
+    uint8_t log[17] = {0};
+    uint64_t db_bits[2] = {0, 0};
+    uint32_t power_bits[2] = {0, 0};
+    size_t len = 0, n = 0, position = 2;
+
+    log[16] = 9;
+    expect("a log that is too long", wolfcloak_log_write(2, db, 4, power, 4, log, 15, &len), WOLFCLOAK_REFUSED_STORE_SIZE);
+    expect("log_write", wolfcloak_log_write(2, db, 4, power, 4, log, 17, &len), WOLFCLOAK_OK);
+    expect("the log's length", len, 16);
+    expect("the log's bytes", memcmp(log, due, 16), 0);
+    expect("the byte after it", log[16], 9);
+    expect("log_channels", wolfcloak_log_channels(log, len, &n), WOLFCLOAK_OK);
+    expect("the log's channels", n, 2);
+    for (int hop = 0; hop < 2; hop++) {
+        expect("log_read", wolfcloak_log_read(log, len, &position, db_bits, 2, power_bits, 2), WOLFCLOAK_OK);
+        expect("the hop's dB bits", memcmp(db_bits, db + 2 * hop, sizeof db_bits), 0);
+        expect("the hop's power bits", memcmp(power_bits, power + 2 * hop, sizeof power_bits), 0);
+        expect("the position", position, hop == 0 ? 15 : 16);
+    }
+    expect("log_read", wolfcloak_log_read(log, len, &position, db_bits, 2, power_bits, 2), WOLFCLOAK_END);
+    position = 2;
+    expect("a pair that did not change", wolfcloak_log_read(log, len, &position, db_bits, 2, power_bits, 2), WOLFCLOAK_REFUSED_DAMAGED);
+    expect("a log that is cut", wolfcloak_log_read(log, 14, &position, db_bits, 2, power_bits, 2), WOLFCLOAK_REFUSED_CUT);
+    expect("the position of a refusal", position, 2);
+}
+
 int main(void)
 {
     bench_d();
@@ -173,6 +206,7 @@ int main(void)
     hear_noise();
     window_rise();
     early_rise();
+    hop_log();
     ticks();
     puts(wrong ? "tests/link: failed" : "tests/link: ok");
     return wrong != 0;

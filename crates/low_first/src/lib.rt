@@ -1,6 +1,7 @@
 // Numbers and floats in a list of bytes, the lowest byte first. Beyond the list's end there are zeros.
 ghost use mathlib.Core.Path.{_≡_};
-ghost use Prim.Native.Nat.{_+_, _<_};
+ghost use Prim.Native.Nat.{_+_, _<_, _≤_};
+ghost use lib.ListN.{length};
 ghost use lib.Ieee.{ofBits, binary32, binary64};
 ghost use Rattle.low_first.specs.LowFirst.{byteAt, lowTwo, lowFour, lowEight, doubleAt, singleAt};
 ghost use Rattle.low_first.specs.LowFirst.{four as LowFirst·four};
@@ -60,8 +61,24 @@ pub fn eight_bytes(list: &[u8], at: usize) -> u64
             )
 }
 
+// The same where the bytes are known to be there: nothing is tested, and the compiled code is one load.
+pub fn four_within(list: &[u8], at: usize) -> u64
+    requires { ⌜ at + 4 ≤ length (now list) ⌝ }
+    ensures { λ r. ⌜ (r ≡ lowFour (now (list .entry)) at) × (r < 4294967296) ⌝ }
+{
+    four(list[at], list[at + 1], list[at + 2], list[at + 3])
+}
+
+pub fn eight_within(list: &[u8], at: usize) -> u64
+    requires { ⌜ at + 8 ≤ length (now list) ⌝ }
+    ensures { λ r. ⌜ r ≡ lowEight (now (list .entry)) at ⌝ }
+{
+    four_within(list, at)
+        + 4294967296 * four(list[at + 4], list[at + 5], list[at + 6], list[at + 7])
+}
+
 // Bits are made a float only where they are no NaN's; the magnitude bits of every NaN are above those of infinity.
-fn double(bits: u64) -> f64
+pub fn double(bits: u64) -> f64
     ensures { λ r. ⌜ r ≡ ofBits binary64 bits ⌝ }
 {
     if bits % 0x8000_0000_0000_0000 > 0x7ff0_0000_0000_0000 {
@@ -70,7 +87,7 @@ fn double(bits: u64) -> f64
     f64::from_bits(bits)
 }
 
-fn single(bits: u32) -> f32
+pub fn single(bits: u32) -> f32
     ensures { λ r. ⌜ r ≡ ofBits binary32 bits ⌝ }
 {
     if bits % 0x8000_0000 > 0x7f80_0000 {

@@ -2,7 +2,7 @@
 -- Assumes nothing.
 use mathlib.Core.Path.{_≡_, refl, sym, ap, ap₂, subst, _∙_}
 use mathlib.Core.Bool.{Bool, true, false, not, _&&_, _||_}
-use mathlib.Core.List.{List}
+use mathlib.Core.List.{List, [], _∷_}
 use mathlib.Core.Logic.{_⊎_, inl, inr, ⊎-elim}
 use Prim.Native.Nat.{ℕ, zero, suc, _+_, _-_, _/_, _≤_, _<_}
 use native.Mathlib.Nat.{add-zero, add-suc, eq-or-lt-of-le, le-of-suc-le-suc}
@@ -10,21 +10,22 @@ use native.Mathlib.Omega.{arith}
 use lib.Dec.{eqb, ltb}
 use lib.ListN.{length, getD}
 use lib.IntN.{pos}
-use lib.Ieee.{Float, nan, inf, fin, binary64, add, div, lt, le, eq, isNan, ofInt, ofBits, round}
+use lib.Ieee.{Float, nan, inf, fin, binary32, binary64, add, mul, div, lt, le, eq, isNan, ofInt, ofBits, round}
 use lib.Ieee.Bits.{is-true}
+use borrow.Author.Tests.{eqb-true, ltb-true, ltb-false, lt-ltb}
 use Rattle.laws.specs.Tests.{within, differ, first}
-use Rattle.laws.proofs.Tests.{clash, by-test, and-false-l, none-any, same-of, or-l}
+use Rattle.laws.proofs.Tests.{clash, by-test, and-l, and-r, and-false-l, none-any, same-of}
 use Rattle.laws.proofs.Tabs.{length-tab, getD-tab}
 use Rattle.laws.proofs.Rounding.{le-numbers, add-rises, add-swaps, div-rises, ofInt-rises}
 use Rattle.laws.proofs.Order.{le-on}
 use Rattle.model.specs.Numbers.{f0, epsilon, powerLinear}
 use Rattle.model.specs.Layout.{blockChannels, ladderMin, rungCount}
-use Rattle.model.specs.Ladder.{f8, rungValue}
+use Rattle.model.specs.Ladder.{f8, rootOf, tenTo, rungValue}
 use Rattle.model.specs.Stores.{bankOf, bankLen, bankFLen, soundBank}
 use Rattle.model.specs.Refusals.{blockSize, garbled, bankRefusal, updateRefusal}
 use Rattle.model.specs.Bank.{FloorBank, Hop, bankStep}
 use Rattle.model.specs.Calls.{leaves, bankUpdate}
-use Rattle.model.specs.Decibels.{highestBelow, highestRung, rungDb, powerDb, NoRung, UpTo, Named, NanLowest, LouderPower, decibels, linearHop, NeverGarbled}
+use Rattle.model.specs.Decibels.{highestBelow, highestRung, rungDb, powerDb, NoRung, UpTo, Named, NanLowest, edges, AllAt, EdgesHold, LouderPower, decibels, linearHop, NeverGarbled}
 use Rattle.model.proofs.RungValues.{value-next}
 
 -- ---- the highest of the rungs below n
@@ -89,6 +90,63 @@ unfolding add
 nan-lowest =
     let none : NoRung (powerLinear nan) = λ i h. no-nan (rungValue i) in
     (none, ⊎-elim (λ a. a .1) (λ b. clash (sym (b .1 .at-most 0 (omega arith)) ∙ no-nan (rungValue 0))) (named nan))
+
+-- ---- edges: a rung that two comparisons name
+
+-- rung r is at most x or the lowest, and the next is not
+abbrev names : ℕ → Float → Bool
+names r x = (le (rungValue r) x || eqb r 0) && not (ltb (suc r) rungCount && le (rungValue (suc r)) x)
+
+module _ (r : ℕ) (x : Float) (on : r < rungCount) (t : names r x ≡ true) where
+  here : (le (rungValue r) x || eqb r 0) ≡ true
+  here = and-l (le (rungValue r) x || eqb r 0) (not (ltb (suc r) rungCount && le (rungValue (suc r)) x)) t
+
+  next : not (ltb (suc r) rungCount && le (rungValue (suc r)) x) ≡ true
+  next = and-r (le (rungValue r) x || eqb r 0) (not (ltb (suc r) rungCount && le (rungValue (suc r)) x)) t
+
+  lowest : le (rungValue r) x ≡ false → r ≡ 0
+  lowest f = eqb-true r 0 (rw f at here)
+
+  -- the highest is not below r, and not above it
+  no-lower : (k : ℕ) → Found rungCount x k → k < r → ⊥
+  no-lower k b l = let z = lowest (b .2 r l on) in omega arith
+
+  no-higher : (k : ℕ) → Found rungCount x k → r < k → ⊥
+  no-higher k b l =
+      let s : suc r + (k - suc r) ≡ k = omega arith in
+      let u = at-most-below never-falls (suc r) (k - suc r) x (omega (arith, b .0)) (ap (λ (i : ℕ). le (rungValue i) x) s ∙ b .1) in
+      clash (sym (rw (lt-ltb (suc r) rungCount (omega (arith, b .0)), u) at next))
+
+  two-name : highestRung x ≡ r
+  unfolding highestRung
+  two-name =
+      ⊎-elim (λ a. a .1 ∙ sym (lowest (a .0 r on)))
+      (λ b.
+      let k = highestBelow rungCount x in
+      by-test (ltb k r) (λ l. absurd (no-lower k b (ltb-true k r l)))
+      (λ l. by-test (ltb r k) (λ m. absurd (no-higher k b (ltb-true r k m))) (λ m. omega (arith, ltb-false k r l, ltb-false r k m))))
+      (searched rungCount x)
+
+-- so each edge is two comparisons
+edge : (bits r : ℕ) → r < rungCount → names r (powerLinear (ofBits binary32 bits)) ≡ true → powerDb (ofBits binary32 bits) ≡ rungDb r
+unfolding powerDb
+edge bits r on t = ap rungDb (two-name r (powerLinear (ofBits binary32 bits)) on t)
+
+abbrev edges-test : List (ℕ × ℕ) → Bool
+edges-test [] = true
+edges-test (e ∷ l) = (ltb (e .1) rungCount && names (e .1) (powerLinear (ofBits binary32 (e .0)))) && edges-test l
+
+edges-at : (l : List (ℕ × ℕ)) → edges-test l ≡ true → AllAt l
+edges-at [] t = tt
+edges-at (e ∷ l) t =
+    let a = ltb (e .1) rungCount in
+    let b = names (e .1) (powerLinear (ofBits binary32 (e .0))) in
+    let h = and-l (a && b) (edges-test l) t in
+    (edge (e .0) (e .1) (ltb-true (e .1) rungCount (and-l a b h)) (and-r a b h), edges-at l (and-r (a && b) (edges-test l) t))
+
+pub edges-hold : EdgesHold
+unfolding ofBits add le lt eq rungValue rootOf tenTo ofInt mul round
+edges-hold = edges-at edges refl
 
 -- ---- louder power, no lower dB
 

@@ -2,15 +2,15 @@
 -- alone. The words in quotes are document 02's. The proofs of what is stated are in proofs/Decibels.antt, under the same names in small letters.
 use mathlib.Core.Path.{_≡_}
 use mathlib.Core.Bool.{Bool, true, false, cond}
-use mathlib.Core.List.{List}
+use mathlib.Core.List.{List, [], _∷_}
 use mathlib.Core.Logic.{_⊎_}
-use Prim.Native.Nat.{ℕ, zero, suc, _≤_, _<_}
+use Prim.Native.Nat.{ℕ, zero, suc, _+_, _-_, _≤_, _<_}
 use lib.ListN.{length, getD}
 use lib.IntN.{pos}
-use lib.Ieee.{Float, nan, binary64, add, div, le, ofInt}
+use lib.Ieee.{Float, nan, binary32, binary64, add, div, le, ofInt, ofBits}
 use Rattle.laws.specs.Lists.{tab}
 use Rattle.model.specs.Numbers.{f0, powerLinear}
-use Rattle.model.specs.Layout.{ladderMin, rungCount}
+use Rattle.model.specs.Layout.{ladderMin, rungsBelow, rungsAbove, rungCount}
 use Rattle.model.specs.Ladder.{f8, rungValue}
 use Rattle.model.specs.Bank.{Hop, hop}
 use Rattle.model.specs.Calls.{bankUpdate}
@@ -57,6 +57,34 @@ Named = (p : Float) → (NoRung (powerLinear p) × (powerDb p ≡ ladderMin)) �
 -- a NaN is none's
 abbrev pub NanLowest : Type 0
 NanLowest = NoRung (powerLinear nan) × (powerDb nan ≡ ladderMin)
+
+-- edges, each power by its f32 bits with its rung
+abbrev pub edges : List (ℕ × ℕ)
+edges =
+    -- 0, -0.0 and the least f32 above 0: 1e-20 alone, -200 dB
+    (0, rungsBelow - 1600)
+    ∷ (0x8000_0000, rungsBelow - 1600)
+    ∷ (1, rungsBelow - 1600)
+    -- the f32 nearest -1e-20: the sum is above 0 and under the lowest rung. Then -1, and the infinity below
+    ∷ (0x9e3c_e508, 0)
+    ∷ (0xbf80_0000, 0)
+    ∷ (0xff80_0000, 0)
+    -- 1 is 0 dB, and the next f32 below it the rung below
+    ∷ (0x3f80_0000, rungsBelow)
+    ∷ (0x3f7f_ffff, rungsBelow - 1)
+    -- the greatest f32, at 385.318 dB, and infinity
+    ∷ (0x7f7f_ffff, rungsBelow + 3082)
+    ∷ (0x7f80_0000, rungsBelow + rungsAbove)
+    -- a NaN
+    ∷ (0x7fc0_0000, 0)
+    ∷ []
+
+abbrev pub AllAt : List (ℕ × ℕ) → Type 0
+AllAt [] = Unit {0}
+AllAt (x ∷ l) = (powerDb (ofBits binary32 (x .0)) ≡ rungDb (x .1)) × AllAt l
+
+abbrev pub EdgesHold : Type 0
+EdgesHold = AllAt edges
 
 -- louder power, no lower dB: what R-10 says of louder dB holds of louder powers
 abbrev pub LouderPower : Type 0

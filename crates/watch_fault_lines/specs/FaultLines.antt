@@ -1,4 +1,4 @@
--- What is wrong with a recording: each line from behind the recording's name, as the list of its texts.
+-- What is wrong with a recording or a log: each line from behind its name, as the list of its texts.
 use mathlib.Core.List.{List, [], _∷_, _++_}
 use Prim.Native.Nat.{ℕ}
 use Rattle.laws.specs.Texts.{ascii}
@@ -13,7 +13,7 @@ placeText hop byte = ascii ": hop " ∷ decimal hop ∷ ascii ", byte " ∷ deci
 
 -- a number of channels that no bank takes; a recording starts with it
 abbrev pub badBandLine : ℕ → List (List ℕ)
-badBandLine n = placeText 0 0 ++ (decimal n ∷ ascii " channels; a recording has 1 to 512\n" ∷ [])
+badBandLine n = placeText 0 0 ++ (decimal n ∷ ascii " channels; there can be 1 to 512\n" ∷ [])
 
 -- how much room is needed, and how much there is
 abbrev pub roomText : ℕ → ℕ → ℕ → List (List ℕ)

@@ -1,4 +1,4 @@
-// The lines on what is wrong with a recording, from behind its name: which number stands where.
+// The lines on what is wrong with a recording or a log, from behind its name: which number stands where.
 ghost use mathlib.Core.Path.{_≡_};
 ghost use Rattle.watch_lines.specs.Lines.{putTexts};
 ghost use Rattle.watch_fault_lines.specs.FaultLines.{placeText, badBandLine, roomText, tooLargeLine, refusalText, refusedLine, badFlagLine, cutPlace};
@@ -27,7 +27,7 @@ pub fn put_bad_band(line: &mut [u8; LINE], n: u16) -> usize
 {
     let at = put_place(line, 0, 0);
     let at = put_number(line, at, wide(n), 0);
-    put_text(line, at, b" channels; a recording has 1 to 512\n")
+    put_text(line, at, b" channels; there can be 1 to 512\n")
 }
 
 // A gate for which there is no room.

@@ -8,15 +8,18 @@ use Rattle.model.specs.Bank.{hop}
 use Rattle.model.specs.Calls.{bankUpdate}
 use Rattle.model.specs.GateCalls.{GateHop, gateUpdate, gateHold}
 use Rattle.watch_recording.specs.declared.Step.{Step}
-use Rattle.watch_recording.specs.declared.Step.the-variants.{End as Step·End, Cut as Step·Cut, BadFlag as Step·BadFlag, Hop}
+use Rattle.watch_recording.specs.declared.Step.the-variants.{End as Step·End, Cut as Step·Cut, BadFlag as Step·BadFlag, Refused as Step·Refused, Hop}
 use Rattle.watch_hear.specs.declared.Heard.{Heard}
-use Rattle.watch_hear.specs.declared.Heard.the-variants.{End, Cut, BadFlag, Refused}
+use Rattle.watch_hear.specs.declared.Heard.the-variants.{End, Cut, BadFlag, Refused, Taken}
 use Rattle.watch_hear.specs.Judged.{Gated, Judged, gateJudged, beside, after, judged}
 use Rattle.watch_hear.specs.Heard.{answerOf, answered, heardOf}
 
-pub refusal : (r : ℕ) → (r ≡ 0 → ⊥) → Refused r ≡ answerOf r
-refusal zero z = absurd (z refl)
-refusal (suc r) z = refl
+pub refusal : (size r : ℕ) → (r ≡ 0 → ⊥) → Refused r ≡ answerOf size r
+refusal size zero z = absurd (z refl)
+refusal size (suc r) z = refl
+
+pub accepted : (size r : ℕ) → r ≡ 0 → Taken size ≡ answerOf size r
+accepted size r z = ap (answerOf size) (sym z)
 
 module _ (bu : List ℕ) (bf : List Float) (gu : List ℕ) (gf : List Float) (h : GateHop) (rise drop : List ℕ) where
   pub held : (b : Bool) (x : ℕ) (f′ : List Float) (rise′ drop′ : List ℕ) → b ≡ true → (x, f′, rise′, drop′) ≡ gateHold bu bf gu gf rise drop
@@ -59,7 +62,11 @@ module _ (bu : List ℕ) (bf : List Float) (gu : List ℕ) (gf : List Float) (h 
     unfolding heardOf
     bad flag t = rw t refl
 
-    pub heard : (b : Bool) (x : Heard) (j : Judged) → s ≡ Hop b → j ≡ judged b bu bf gu gf h rise drop → x ≡ answerOf (j .0)
+    pub damaged : (r : ℕ) → s ≡ Step·Refused r → (Refused r, bu, bf, gu, gf, rise, drop) ≡ heardOf s bu bf gu gf h rise drop
+    unfolding heardOf
+    damaged r t = rw t refl
+
+    pub heard : (b : Bool) (size : ℕ) (x : Heard) (j : Judged) → s ≡ Hop b size → j ≡ judged b bu bf gu gf h rise drop → x ≡ answerOf size (j .0)
         → (x, j .1, j .2, j .3, j .4, j .5, j .6) ≡ heardOf s bu bf gu gf h rise drop
     unfolding heardOf
-    heard b x j t e a = rw t (ap (λ (y : Heard). (y, j .1, j .2, j .3, j .4, j .5, j .6)) a ∙ ap answered e)
+    heard b size x j t e a = rw t (ap (λ (y : Heard). (y, j .1, j .2, j .3, j .4, j .5, j .6)) a ∙ ap (answered size) e)

@@ -4,26 +4,27 @@ use Prim.Native.Nat.{ℕ, zero, suc}
 use lib.Ieee.{Float}
 use Rattle.model.specs.GateCalls.{GateHop}
 use Rattle.watch_recording.specs.declared.Step.{Step}
-use Rattle.watch_recording.specs.declared.Step.the-variants.{End as Step·End, Cut as Step·Cut, BadFlag as Step·BadFlag, Hop}
+use Rattle.watch_recording.specs.declared.Step.the-variants.{End as Step·End, Cut as Step·Cut, BadFlag as Step·BadFlag, Refused as Step·Refused, Hop}
 use Rattle.watch_hear.specs.declared.Heard.{Heard}
 use Rattle.watch_hear.specs.declared.Heard.the-variants.{End, Cut, BadFlag, Refused, Taken}
 use Rattle.watch_hear.specs.Judged.{Judged, judged}
 
--- 0: taken; else the number of the refusal
-abbrev pub answerOf : ℕ → Heard
-answerOf zero = Taken
-answerOf (suc r) = Refused (suc r)
+-- 0: taken, a hop of so many bytes; else the number of the refusal
+abbrev pub answerOf : ℕ → ℕ → Heard
+answerOf size zero = Taken size
+answerOf size (suc r) = Refused (suc r)
 
 -- what became of it, the bank's two stores, the gate's, rise and drop
 abbrev pub Left : Type 0
 Left = Heard × List ℕ × List Float × List ℕ × List Float × List ℕ × List ℕ
 
-abbrev pub answered : Judged → Left
-answered j = (answerOf (j .0), j .1, j .2, j .3, j .4, j .5, j .6)
+abbrev pub answered : ℕ → Judged → Left
+answered size j = (answerOf size (j .0), j .1, j .2, j .3, j .4, j .5, j .6)
 
 -- by what was read where the hop is due: only a whole hop changes anything
 unfoldable pub heardOf : Step → List ℕ → List Float → List ℕ → List Float → GateHop → List ℕ → List ℕ → Left
 heardOf Step·End bu bf gu gf h rise drop = (End, bu, bf, gu, gf, rise, drop)
 heardOf (Step·Cut got) bu bf gu gf h rise drop = (Cut got, bu, bf, gu, gf, rise, drop)
 heardOf (Step·BadFlag flag) bu bf gu gf h rise drop = (BadFlag flag, bu, bf, gu, gf, rise, drop)
-heardOf (Hop heard) bu bf gu gf h rise drop = answered (judged heard bu bf gu gf h rise drop)
+heardOf (Step·Refused r) bu bf gu gf h rise drop = (Refused r, bu, bf, gu, gf, rise, drop)
+heardOf (Hop heard size) bu bf gu gf h rise drop = answered size (judged heard bu bf gu gf h rise drop)

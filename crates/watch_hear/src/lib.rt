@@ -12,10 +12,10 @@ pub enum Heard {
     Cut(usize),
     // A flag byte with a bit that means nothing.
     BadFlag(u8),
-    // The bank or the gate refused, by this number.
+    // The reader of a log, the bank or the gate refused, by this number.
     Refused(u16),
-    // Both took the hop.
-    Taken,
+    // Bank and gate took the hop, of so many bytes.
+    Taken(usize),
 }
 
 // With static heard the gate holds.
@@ -59,13 +59,13 @@ fn judge(
     judge_gate(is_static, bank, bank_f, gate, gate_f, db, power, rise, drop)
 }
 
-fn answer(no: u16) -> Heard
-    ensures { λ r. ⌜ r ≡ answerOf no ⌝ }
+fn answer(no: u16, size: usize) -> Heard
+    ensures { λ r. ⌜ r ≡ answerOf size no ⌝ }
 {
     if no != 0 {
         return Heard::Refused(no);
     }
-    Heard::Taken
+    Heard::Taken(size)
 }
 
 // What was read where a hop is due: a whole hop goes to the bank and the gate.
@@ -86,16 +86,10 @@ pub fn hear(
         Step::End => Heard::End,
         Step::Cut(got) => Heard::Cut(got),
         Step::BadFlag(flag) => Heard::BadFlag(flag),
-        Step::Hop(is_static) => answer(judge(
-            is_static,
-            bank,
-            bank_f,
-            gate,
-            gate_f,
-            db,
-            power,
-            rise,
-            drop,
-        )),
+        Step::Refused(no) => Heard::Refused(no),
+        Step::Hop(is_static, size) => answer(
+            judge(is_static, bank, bank_f, gate, gate_f, db, power, rise, drop),
+            size,
+        ),
     }
 }

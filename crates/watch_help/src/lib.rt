@@ -11,12 +11,13 @@ pub fn print_help() {
     print_levels();
     print_options();
     print_recording();
+    print_log();
     print_report();
 }
 
 fn print_levels() {
     say(
-        b"watch [OPTIONS] FILE    which channels of a recording are alive; FILE - is standard input\n\n",
+        b"watch [OPTIONS] FILE    which channels of a recording or a log are alive; FILE - is standard input\n\n",
     );
     say(
         b"  --on DB        a channel rises at DB over its rise floor in two windows on end   (9)\n",
@@ -37,6 +38,7 @@ fn print_options() {
         b"  --reference    adds the spectral reference, a linear power, of each channel that is alive\n",
     );
     say(b"  --csv          a line per slow hop (every 15th) and channel, for tools/plot.py\n");
+    say(b"  --log          FILE is a hop log\n");
     say(b"  --help         this text\n\n");
 }
 
@@ -53,12 +55,22 @@ fn print_recording() {
     say(b"byte of each number is first.\n\n");
 }
 
+fn print_log() {
+    say(
+        b"A log keeps only what changed: n as above; then for each hop a map of a bit for each channel, channel 0 in the lowest\n",
+    );
+    say(
+        b"of the first byte, and for each set bit the dB value and the power. It has no flag for static. examples/c/hoplog.c\n",
+    );
+    say(b"makes a log of a recording, and a recording of a log.\n\n");
+}
+
 fn print_report() {
     say(
         b"It prints the settings, a line for each change of a channel's state, and at the end the floors of each channel and\n",
     );
     say(
-        b"how long it was alive. What is wrong with a recording goes to standard error, with the hop and the byte, and\n",
+        b"how long it was alive. What is wrong with FILE goes to standard error, with the hop and the byte, and\n",
     );
     say(b"what came before is still reported.\n");
 }
@@ -77,7 +89,7 @@ fn print_reason(fault: u8) {
             b" is no list of one to eight lengths of 1 to 375 hops, as 15,75,375\n",
         ),
         watch_words::NO_VALUE => cry(b" is the last word and needs a value\n"),
-        watch_words::SECOND_FILE => cry(b" is a second recording; watch takes one\n"),
+        watch_words::SECOND_FILE => cry(b" is a second file; watch takes one\n"),
         _ => cry(b" is too long\n"),
     }
 }

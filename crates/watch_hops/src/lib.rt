@@ -1,19 +1,19 @@
 // The hops one after another: read, heard, told and counted.
 ghost use mathlib.Core.Path.{_≡_};
-ghost use Rattle.watch_hops.specs.Followed.{isTaken, stopped, afterHop, followed};
+ghost use Rattle.watch_hops.specs.Followed.{isTaken, takenBytes, stopped, afterHop, followed};
 use laws::least;
 use laws::wide;
 use watch_hear::Heard;
 use watch_hear::hear;
 use watch_notices::faults;
-use watch_read::read_hop;
 use watch_recording::MOST;
 use watch_recording::Place;
+use watch_recording::Step;
 use watch_report::lines;
 use watch_report::tail;
 use watch_words::Settings;
 
-// Lends each list at the recording's own size.
+// Lends each list at the size of what is watched. Before the first hop of a log all bit patterns are zero.
 pub fn watch_hops(
     fd: i32,
     name: &[u8],
@@ -24,6 +24,8 @@ pub fn watch_hops(
     gate: &mut [u16],
     gate_f: &mut [f64],
 ) {
+    let mut bits = [0u64; MOST];
+    let mut powers = [0u32; MOST];
     let mut db = [0.0f64; MOST];
     let mut power = [0.0f32; MOST];
     let mut rise = [0u8; MOST];
@@ -42,6 +44,8 @@ pub fn watch_hops(
         bank_f,
         gate,
         gate_f,
+        &mut bits[..k],
+        &mut powers[..k],
         &mut db[..k],
         &mut power[..k],
         &mut rise[..k],
@@ -53,7 +57,23 @@ pub fn watch_hops(
     );
 }
 
-// No recording has as many hops as there are turns.
+// The next hop, of a log or of a recording.
+fn read_hop(
+    fd: i32,
+    s: Settings,
+    n: u16,
+    bits: &mut [u64],
+    powers: &mut [u32],
+    db: &mut [f64],
+    power: &mut [f32],
+) -> Step {
+    if s.is_log {
+        return watch_log::read_hop(fd, n, bits, powers, db, power);
+    }
+    watch_read::read_hop(fd, n, db, power)
+}
+
+// Nothing that is watched has as many hops as there are turns.
 fn watch_all(
     fd: i32,
     name: &[u8],
@@ -63,6 +83,8 @@ fn watch_all(
     bank_f: &mut [f64],
     gate: &mut [u16],
     gate_f: &mut [f64],
+    bits: &mut [u64],
+    powers: &mut [u32],
     db: &mut [f64],
     power: &mut [f32],
     rise: &mut [u8],
@@ -75,13 +97,12 @@ fn watch_all(
     let mut place = watch_recording::first_place();
     let mut turns = u64::MAX;
     while turns > 0 && place.is_on {
-        let step = read_hop(fd, n, db, power);
+        let step = read_hop(fd, s, n, bits, powers, db, power);
         let heard = hear(step, bank, bank_f, gate, gate_f, db, power, rise, drop);
         place = follow(
             fd,
             name,
             s,
-            n,
             place,
             heard,
             bank,
@@ -106,7 +127,6 @@ fn follow(
     fd: i32,
     name: &[u8],
     s: Settings,
-    n: u16,
     place: Place,
     heard: Heard,
     bank: &[u16],
@@ -121,14 +141,14 @@ fn follow(
     events: &mut [u8],
     rises: &mut [u64],
 ) -> Place
-    ensures { λ r. ⌜ (r, now (alive .exit), now («alive_hops» .exit), now (events .exit), now (rises .exit)) ≡ followed heard place n (now (alive .entry)) (now («alive_hops» .entry)) (now (events .entry)) (now (rises .entry)) (now (rise .entry)) (now (drop .entry)) ⌝ }
+    ensures { λ r. ⌜ (r, now (alive .exit), now («alive_hops» .exit), now (events .exit), now (rises .exit)) ≡ followed heard place (now (alive .entry)) (now («alive_hops» .entry)) (now (events .entry)) (now (rises .entry)) (now (rise .entry)) (now (drop .entry)) ⌝ }
 {
     if !is_taken(heard) {
         return print_stop(fd, name, place, heard);
     }
     take_hop(
         s,
-        n,
+        taken_bytes(heard),
         place,
         bank,
         bank_f,
@@ -152,7 +172,19 @@ fn is_taken(heard: Heard) -> bool
         Heard::Cut(_) => false,
         Heard::BadFlag(_) => false,
         Heard::Refused(_) => false,
-        Heard::Taken => true,
+        Heard::Taken(_) => true,
+    }
+}
+
+fn taken_bytes(heard: Heard) -> usize
+    ensures { λ r. ⌜ r ≡ takenBytes heard ⌝ }
+{
+    match heard {
+        Heard::End => 0,
+        Heard::Cut(_) => 0,
+        Heard::BadFlag(_) => 0,
+        Heard::Refused(_) => 0,
+        Heard::Taken(size) => size,
     }
 }
 
@@ -172,7 +204,7 @@ fn print_stop(fd: i32, name: &[u8], place: Place, heard: Heard) -> Place
 // What the marks of a hop change, told and then taken over.
 fn take_hop(
     s: Settings,
-    n: u16,
+    size: usize,
     place: Place,
     bank: &[u16],
     bank_f: &[f64],
@@ -186,7 +218,7 @@ fn take_hop(
     events: &mut [u8],
     rises: &mut [u64],
 ) -> Place
-    ensures { λ r. ⌜ (r, now (alive .exit), now («alive_hops» .exit), now (events .exit), now (rises .exit)) ≡ afterHop place n (now (alive .entry)) (now («alive_hops» .entry)) (now (events .entry)) (now (rises .entry)) (now (rise .entry)) (now (drop .entry)) ⌝ }
+    ensures { λ r. ⌜ (r, now (alive .exit), now («alive_hops» .exit), now (events .exit), now (rises .exit)) ≡ afterHop place size (now (alive .entry)) (now («alive_hops» .entry)) (now (events .entry)) (now (rises .entry)) (now (rise .entry)) (now (drop .entry)) ⌝ }
 {
     watch_states::count_rises(rises, alive, rise, drop);
     watch_states::add_events(events, alive, rise, drop);
@@ -211,5 +243,5 @@ fn take_hop(
         rise,
         drop,
     );
-    watch_recording::next_place(place, watch_recording::hop_bytes(n))
+    watch_recording::next_place(place, size)
 }

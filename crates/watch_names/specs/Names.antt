@@ -23,9 +23,23 @@ nameIn (e ∷ es) other n = cond (eqb n (e .0)) (e .1) (nameIn es other n)
 abbrev pub eventName : ℕ → List ℕ
 eventName = nameIn ((0, []) ∷ (1, ascii "rise") ∷ (2, ascii "drop") ∷ []) (ascii "rise+drop")
 
--- document 01's numbers and words of the refusals; 9, the last, is unsound
+-- document 02's numbers of the refusals, 10 to 16
+abbrev pub requestRefusalName : ℕ → List ℕ
+requestRefusalName =
+    nameIn
+    ((10, ascii "cut: the log ends in its header or in a hop")
+    ∷ (11, ascii "damaged: the log has a channel too many, or one that did not change")
+    ∷ (12, ascii "span: 1 to 600 slow hops")
+    ∷ (13, ascii "unlike: the logs differ in channels or hops")
+    ∷ (14, ascii "segments: no such segment")
+    ∷ (15, ascii "address: no such register")
+    ∷ (16, ascii "right: not for this role")
+    ∷ [])
+    (ascii "no refusal has this number")
+
+-- document 01's numbers and words of the refusals, 1 to 9, then those
 abbrev pub refusalName : ℕ → List ℕ
-refusalName =
+refusalName r =
     nameIn
     ((1, ascii "band: no such number of channels")
     ∷ (2, ascii "store size")
@@ -35,5 +49,6 @@ refusalName =
     ∷ (6, ascii "garbled: a dB value is not a number on a slow hop")
     ∷ (7, ascii "channel: no such channel")
     ∷ (8, ascii "mismatch")
+    ∷ (9, ascii "unsound")
     ∷ [])
-    (ascii "unsound")
+    (requestRefusalName r) r

@@ -1,7 +1,7 @@
 // The words of a report for changes, states, events and refusals.
 ghost use mathlib.Core.Path.{_≡_};
 ghost use Rattle.watch_text.specs.Text.{putAll};
-ghost use Rattle.watch_names.specs.Names.{changeName, stateName, eventName, refusalName};
+ghost use Rattle.watch_names.specs.Names.{changeName, stateName, eventName, refusalName, requestRefusalName};
 use watch_text::LINE;
 use watch_text::put_text;
 
@@ -36,7 +36,7 @@ pub fn put_event(line: &mut [u8; LINE], at: usize, event: u8) -> usize
     }
 }
 
-// The trade's words of document 01.
+// The trade's words of document 01, and behind them the words for document 02's.
 pub fn put_refusal(line: &mut [u8; LINE], at: usize, no: u16) -> usize
     ensures { λ r. ⌜ (now (line .exit), r) ≡ putAll (now (line .entry), at) (refusalName no) ⌝ }
 {
@@ -53,6 +53,26 @@ pub fn put_refusal(line: &mut [u8; LINE], at: usize, no: u16) -> usize
         ),
         7 => put_text(line, at, b"channel: no such channel"),
         8 => put_text(line, at, b"mismatch"),
-        _ => put_text(line, at, b"unsound"),
+        9 => put_text(line, at, b"unsound"),
+        _ => put_request_refusal(line, at, no),
+    }
+}
+
+fn put_request_refusal(line: &mut [u8; LINE], at: usize, no: u16) -> usize
+    ensures { λ r. ⌜ (now (line .exit), r) ≡ putAll (now (line .entry), at) (requestRefusalName no) ⌝ }
+{
+    match no {
+        10 => put_text(line, at, b"cut: the log ends in its header or in a hop"),
+        11 => put_text(
+            line,
+            at,
+            b"damaged: the log has a channel too many, or one that did not change",
+        ),
+        12 => put_text(line, at, b"span: 1 to 600 slow hops"),
+        13 => put_text(line, at, b"unlike: the logs differ in channels or hops"),
+        14 => put_text(line, at, b"segments: no such segment"),
+        15 => put_text(line, at, b"address: no such register"),
+        16 => put_text(line, at, b"right: not for this role"),
+        _ => put_text(line, at, b"no refusal has this number"),
     }
 }

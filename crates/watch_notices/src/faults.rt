@@ -1,4 +1,4 @@
-// What is wrong with a recording, on standard error, with the hop and the byte.
+// What is wrong with a recording or a log, on standard error, with the hop and the byte.
 use crate::out::cry;
 use libc::STDERR_FILENO;
 use watch_fault_lines::put_bad_band;
@@ -32,7 +32,7 @@ pub fn print_no_header(fd: i32, name: &[u8], got: usize) {
     let mut line = [0u8; LINE];
     let end = put_place(&mut line, 0, got as u64);
     cry_of(name, &line, end);
-    cry_short(fd, b"the recording is cut: it has no number of channels\n");
+    cry_short(fd, b"it is cut: it has no number of channels\n");
 }
 
 pub fn print_bad_band(name: &[u8], n: u16) {
@@ -57,12 +57,12 @@ pub fn print_refused(name: &[u8], place: Place, no: u16) {
     print_refusal(name, place.hop, place.byte, no);
 }
 
-// The recording ends within a hop.
+// It ends within a hop.
 pub fn print_cut(fd: i32, name: &[u8], place: Place, got: usize) {
     let mut line = [0u8; LINE];
     let end = put_cut_place(&mut line, place, got);
     cry_of(name, &line, end);
-    cry_short(fd, b"the recording is cut within this hop\n");
+    cry_short(fd, b"it is cut within this hop\n");
 }
 
 pub fn print_bad_flag(name: &[u8], place: Place, flag: u8) {

@@ -22,7 +22,7 @@ abbrev pub stepOf : List ℕ → ℕ → Step
 stepOf l size =
     pick (eqb (length l) 0) End
     (pick (ltb 1 (byteAt l 0)) (BadFlag (byteAt l 0))
-    (pick (ltb (length l) size) (Cut (length l)) (Hop (eqb (byteAt l 0) 1))))
+    (pick (ltb (length l) size) (Cut (length l)) (Hop (eqb (byteAt l 0) 1) size)))
 
 -- a hop's number and its first byte, and whether hops are still read
 abbrev pub placeAt : ℕ → ℕ → Bool → Place

@@ -22,8 +22,10 @@ pub enum Step {
     Cut(usize),
     // A flag byte with a bit that means nothing.
     BadFlag(u8),
-    // A whole hop; true: static is heard.
-    Hop(bool),
+    // What the reader of a log refuses, by this number.
+    Refused(u16),
+    // A whole hop of so many bytes; true: static is heard.
+    Hop(bool, usize),
 }
 
 // How many bytes a hop of n channels takes.
@@ -97,7 +99,7 @@ pub fn step_of(bytes: &[u8], size: usize) -> Step
     if bytes.len() < size {
         return Step::Cut(bytes.len());
     }
-    Step::Hop(flag == 1)
+    Step::Hop(flag == 1, size)
 }
 
 // The dB values of a hop, behind its flag.

@@ -11,7 +11,7 @@ use Rattle.watch_levels.specs.declared.LevelWord.the-variants.{Is, Wrong}
 use Rattle.watch_levels.specs.Levels.{level, noLevel, levelOf}
 use Rattle.watch_lengths.specs.Lengths.{lengthsOf}
 use Rattle.watch_words.specs.declared.Word.{Word}
-use Rattle.watch_words.specs.declared.Word.the-variants.{Help, Csv, Reference, On, Off, Early, Lengths, Unknown, File}
+use Rattle.watch_words.specs.declared.Word.the-variants.{Help, Csv, Reference, Log, On, Off, Early, Lengths, Unknown, File}
 use Rattle.watch_words.specs.declared.Settings.{Settings}
 
 -- the options by their names
@@ -21,6 +21,7 @@ options =
     ∷ (ascii "-h", Help)
     ∷ (ascii "--csv", Csv)
     ∷ (ascii "--reference", Reference)
+    ∷ (ascii "--log", Log)
     ∷ (ascii "--on", On)
     ∷ (ascii "--off", Off)
     ∷ (ascii "--early", Early)
@@ -81,6 +82,7 @@ defaults =
       «is_csv» = false;
       «has_reference» = false;
       «is_help» = false;
+      «is_log» = false;
       file = 0;
       due = any;
       fault = noFault;
@@ -101,6 +103,7 @@ valued s a b e n =
       «is_csv» = s .«is_csv»;
       «has_reference» = s .«has_reference»;
       «is_help» = s .«is_help»;
+      «is_log» = s .«is_log»;
       file = s .file;
       due = any;
       fault = s .fault;
@@ -108,8 +111,8 @@ valued s a b e n =
     }
 
 -- settings that ask for other things
-abbrev pub asking : Settings → Bool → Bool → Bool → ℕ → Settings
-asking s csv reference help i =
+abbrev pub asking : Settings → Bool → Bool → Bool → Bool → ℕ → Settings
+asking s csv reference help log i =
     record {
       on = s .on;
       off = s .off;
@@ -118,6 +121,7 @@ asking s csv reference help i =
       «is_csv» = csv;
       «has_reference» = reference;
       «is_help» = help;
+      «is_log» = log;
       file = i;
       due = s .due;
       fault = s .fault;
@@ -135,6 +139,7 @@ noted s d f i =
       «is_csv» = s .«is_csv»;
       «has_reference» = s .«has_reference»;
       «is_help» = s .«is_help»;
+      «is_log» = s .«is_log»;
       file = s .file;
       due = d;
       fault = f;
@@ -151,11 +156,15 @@ awaiting s d i = noted s d (s .fault) i
 
 -- what is to be printed
 abbrev pub printing : Settings → Bool → Bool → Bool → Settings
-printing s csv reference help = asking s csv reference help (s .file)
+printing s csv reference help = asking s csv reference help (s .«is_log») (s .file)
 
--- the recording is word i
+-- the file is word i
 abbrev pub filed : Settings → ℕ → Settings
-filed s i = asking s (s .«is_csv») (s .«has_reference») (s .«is_help») i
+filed s i = asking s (s .«is_csv») (s .«has_reference») (s .«is_help») (s .«is_log») i
+
+-- what is watched is a hop log
+abbrev pub logged : Settings → Settings
+logged s = asking s (s .«is_csv») (s .«has_reference») (s .«is_help») true (s .file)
 
 abbrev pub levelled : Settings → Level → Level → Level → Settings
 levelled s a b e = valued s a b e (s .lengths)
@@ -163,7 +172,7 @@ levelled s a b e = valued s a b e (s .lengths)
 abbrev pub counting : Settings → ℕ → Settings
 counting s n = valued s (s .on) (s .off) (s .early) n
 
--- a second recording is a fault
+-- a second file is a fault
 unfoldable pub withFile : Settings → ℕ → Settings
 withFile s i = cond (eqb (s .file) 0) (filed s i) (faulty s secondFile i)
 
@@ -172,6 +181,7 @@ unfoldable pub anyTaken : Settings → ℕ → Word → Settings
 anyTaken s i Help = printing s (s .«is_csv») (s .«has_reference») true
 anyTaken s i Csv = printing s true (s .«has_reference») (s .«is_help»)
 anyTaken s i Reference = printing s (s .«is_csv») true (s .«is_help»)
+anyTaken s i Log = logged s
 anyTaken s i On = awaiting s onValue i
 anyTaken s i Off = awaiting s offValue i
 anyTaken s i Early = awaiting s earlyValue i

@@ -1,10 +1,10 @@
-// The words of the command line: options with their values, and the name of the recording.
+// The words of the command line: options with their values, and the name of the recording or log.
 ghost use mathlib.Core.Path.{_≡_};
 ghost use mathlib.Core.Bool.{_&&_};
 ghost use lib.Dec.{eqb};
 ghost use Rattle.laws.specs.Texts.{ascii, sameBytes};
 ghost use Rattle.watch_words.specs.Words.{named, options, wordOf, defaults, defaultLengths, faulty as Words·faulty};
-ghost use Rattle.watch_words.specs.Words.{awaiting as Words·awaiting, withFile, printing, anyTaken, withLevel, levelTaken, lengthsTaken};
+ghost use Rattle.watch_words.specs.Words.{awaiting as Words·awaiting, withFile, printing, logged, anyTaken, withLevel, levelTaken, lengthsTaken};
 ghost use Rattle.watch_words.specs.Words.{earlyValue, wordTaken, allTaken};
 ghost use Rattle.watch_lengths.specs.Lengths.{lengthsOf};
 use check::same;
@@ -20,6 +20,7 @@ pub enum Word {
     Help,
     Csv,
     Reference,
+    Log,
     On,
     Off,
     Early,
@@ -48,6 +49,9 @@ fn option_of(word: &[u8]) -> Word
     }
     if is(word, b"--reference") {
         return Word::Reference;
+    }
+    if is(word, b"--log") {
+        return Word::Log;
     }
     if is(word, b"--on") {
         return Word::On;
@@ -112,6 +116,8 @@ pub struct Settings {
     pub is_csv: bool,
     pub has_reference: bool,
     pub is_help: bool,
+    // What is watched is a hop log.
+    pub is_log: bool,
     // The number of the word that names the recording; 0: none does.
     pub file: usize,
     // What is due next, and what is wrong with which word.
@@ -137,6 +143,7 @@ pub fn default_settings() -> Settings
         is_csv: false,
         has_reference: false,
         is_help: false,
+        is_log: false,
         file: 0,
         due: ANY,
         fault: NOTHING,
@@ -186,6 +193,13 @@ fn with_printing(mut s: Settings, csv: bool, reference: bool, help: bool) -> Set
     s
 }
 
+fn with_log(mut s: Settings) -> Settings
+    ensures { λ r. ⌜ r ≡ logged s ⌝ }
+{
+    s.is_log = true;
+    s
+}
+
 fn take_any(s: Settings, i: usize, word: &[u8]) -> Settings
     ensures { λ r. ⌜ r ≡ anyTaken s i (wordOf (now (word .entry))) ⌝ }
 {
@@ -193,6 +207,7 @@ fn take_any(s: Settings, i: usize, word: &[u8]) -> Settings
         Word::Help => with_printing(s, s.is_csv, s.has_reference, true),
         Word::Csv => with_printing(s, true, s.has_reference, s.is_help),
         Word::Reference => with_printing(s, s.is_csv, true, s.is_help),
+        Word::Log => with_log(s),
         Word::On => awaiting(s, ON, i),
         Word::Off => awaiting(s, OFF, i),
         Word::Early => awaiting(s, EARLY, i),

@@ -1,5 +1,7 @@
-// The C interface: each call of the bank, in gate_rows each of the gate, and in segment_rows the dispatcher's, in a form that C can pass. An enum, a struct or a returned part is taken apart by `answers`.
+// The C interface: each call of the bank, in gate_rows each of the gate, in linear_rows those from linear power alone, in log_rows each of the hop log, and in segment_rows the dispatcher's, in a form that C can pass. An enum, a struct or a returned part is taken apart by `answers` and `log_answers`.
 pub mod gate_rows;
+pub mod linear_rows;
+pub mod log_rows;
 pub mod segment_rows;
 
 ghost use mathlib.Core.Path.{_≡_};

@@ -12,7 +12,10 @@ print-stop-requires : tie.Need-print-stop-requires
 print-stop-requires c κs = search needs
 
 returns : tie.Need-returns
-returns c = stops _ _ _ _ _ _ _ _ _ _ (c .before .before .is-taken .ensures) _ (not-true _ (c .before .if1 .taken)) (c .print-stop .ensures)
+returns c = stops _ 0 _ _ _ _ _ _ _ _ (c .before .before .is-taken .ensures) _ (not-true _ (c .before .if1 .taken)) (c .print-stop .ensures)
+
+taken-bytes-requires : tie.Need-taken-bytes-requires
+taken-bytes-requires c κs = search needs
 
 take-hop-requires : tie.Need-take-hop-requires
 take-hop-requires c κs = search needs
@@ -30,7 +33,8 @@ same-length-4 : tie.Need-same-length-4
 same-length-4 c = search needs
 
 returns-2 : tie.Need-returns-2
-returns-2 c = goes _ _ _ _ _ _ _ _ _ _ (c .before .before .before .before .before .before .before .before .before .before .before .before .before .before .is-taken .ensures) _ (not-false _ (c .before .before .before .before .before .before .before .before .before .before .before .before .before .if1 .left)) (c .before .before .before .before .before .before .before .before .take-hop .ensures)
+returns-2 c =
+    goes _ _ _ _ _ _ _ _ _ _ (c .before .before .before .before .before .before .before .before .before .before .before .before .before .before .before .is-taken .ensures) _ (not-false _ (c .before .before .before .before .before .before .before .before .before .before .before .before .before .before .if1 .left)) (c .before .before .before .before .before .before .before .before .before .before .before .before .before .taken-bytes .ensures) (c .before .before .before .before .before .before .before .before .take-hop .ensures)
 
 pub follow-spec : {M : Type 1} → statement M
 follow-spec =
@@ -39,6 +43,7 @@ follow-spec =
     is-taken-requires
     print-stop-requires
     returns
+    taken-bytes-requires
     take-hop-requires
     same-length
     same-length-2

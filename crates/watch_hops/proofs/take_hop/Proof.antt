@@ -19,9 +19,6 @@ is-slow-requires c κs = search needs
 close-hop-requires : tie.Need-close-hop-requires
 close-hop-requires c κs = search needs
 
-hop-bytes-requires : tie.Need-hop-bytes-requires
-hop-bytes-requires c κs = search needs
-
 next-place-requires : tie.Need-next-place-requires
 next-place-requires c κs = search needs
 
@@ -39,7 +36,7 @@ same-length-4 c = search needs
 
 returns : tie.Need-returns
 returns c =
-    took _ _ _ _ _ _ _ _ _ _ _ _ _ _ _ _ (c .before .before .before .before .before .before .before .before .before .before .before .before .before .before .before .before .before .before .before .before .before .before .before .count-rises .ensures) (c .before .before .before .before .before .before .before .before .before .before .before .before .before .before .before .before .before .before .add-events .ensures) (c .before .before .before .before .before .before .before .before .before .before .before .before .is-slow .ensures) (c .before .before .before .before .before .before .before .before .close-hop .ensures) (c .before .hop-bytes .ensures) (c .next-place .ensures)
+    took _ _ _ _ _ _ _ _ _ _ _ _ _ _ _ (c .before .before .before .before .before .before .before .before .before .before .before .before .before .before .before .before .before .before .before .before .before .before .count-rises .ensures) (c .before .before .before .before .before .before .before .before .before .before .before .before .before .before .before .before .before .add-events .ensures) (c .before .before .before .before .before .before .before .before .before .before .before .is-slow .ensures) (c .before .before .before .before .before .before .before .close-hop .ensures) (c .next-place .ensures)
 
 pub take-hop-spec : {M : Type 1} → statement M
 take-hop-spec =
@@ -50,7 +47,6 @@ take-hop-spec =
     print-hop-requires
     is-slow-requires
     close-hop-requires
-    hop-bytes-requires
     next-place-requires
     same-length
     same-length-2

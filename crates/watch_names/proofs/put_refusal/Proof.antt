@@ -1,3 +1,4 @@
+-- `watch_names::put_refusal` meets its contract. Assumes nothing.
 use borrow.Author.Tests.{ne-eqb}
 use borrow.Author.Needs.{needs}
 use Rattle.watch_names.proofs.put_refusal.Statement.{statement}
@@ -57,6 +58,9 @@ slice-aggregate-put-text-9 c = search needs
 put-text-requires-9 : tie.Need-put-text-requires-9
 put-text-requires-9 c κs = search needs
 
+put-request-refusal-requires : tie.Need-put-request-refusal-requires
+put-request-refusal-requires c κs = search needs
+
 returns : tie.Need-returns
 returns c = simp (c .before .before .before .match .keys1) (c .put-text .ensures)
 
@@ -82,7 +86,10 @@ returns-8 : tie.Need-returns-8
 returns-8 c = simp (c .before .before .before .match .keys8) (c .put-text8 .ensures)
 
 returns-9 : tie.Need-returns-9
-returns-9 c = simp (ne-eqb _ _ (c .before .before .before .match .rest .0 .0 .0 .0 .0 .0 .0 .1), ne-eqb _ _ (c .before .before .before .match .rest .0 .0 .0 .0 .0 .0 .1), ne-eqb _ _ (c .before .before .before .match .rest .0 .0 .0 .0 .0 .1), ne-eqb _ _ (c .before .before .before .match .rest .0 .0 .0 .0 .1), ne-eqb _ _ (c .before .before .before .match .rest .0 .0 .0 .1), ne-eqb _ _ (c .before .before .before .match .rest .0 .0 .1), ne-eqb _ _ (c .before .before .before .match .rest .0 .1), ne-eqb _ _ (c .before .before .before .match .rest .1)) (c .put-text9 .ensures)
+returns-9 c = simp (c .before .before .before .match .keys9) (c .put-text9 .ensures)
+
+returns-10 : tie.Need-returns-10
+returns-10 c = simp (ne-eqb _ _ (c .before .before .match .rest .0 .0 .0 .0 .0 .0 .0 .0 .1), ne-eqb _ _ (c .before .before .match .rest .0 .0 .0 .0 .0 .0 .0 .1), ne-eqb _ _ (c .before .before .match .rest .0 .0 .0 .0 .0 .0 .1), ne-eqb _ _ (c .before .before .match .rest .0 .0 .0 .0 .0 .1), ne-eqb _ _ (c .before .before .match .rest .0 .0 .0 .0 .1), ne-eqb _ _ (c .before .before .match .rest .0 .0 .0 .1), ne-eqb _ _ (c .before .before .match .rest .0 .0 .1), ne-eqb _ _ (c .before .before .match .rest .0 .1), ne-eqb _ _ (c .before .before .match .rest .1)) (c .put-request-refusal .ensures)
 
 pub put-refusal-spec : {M : Type 1} → statement M
 put-refusal-spec =
@@ -106,6 +113,7 @@ put-refusal-spec =
     put-text-requires-8
     slice-aggregate-put-text-9
     put-text-requires-9
+    put-request-refusal-requires
     returns
     returns-2
     returns-3
@@ -114,4 +122,5 @@ put-refusal-spec =
     returns-6
     returns-7
     returns-8
-    returns-9)
+    returns-9
+    returns-10)

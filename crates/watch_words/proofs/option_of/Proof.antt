@@ -1,120 +1,103 @@
+-- `watch_words::option_of` meets its contract: the options are tried in the order of the table. Assumes nothing.
 use mathlib.Core.Path.{sym, _∙_}
 use borrow.Author.Needs.{needs}
 use Rattle.watch_words.specs.Words.{named}
 use Rattle.watch_words.proofs.option_of.Statement.{statement}
 use Rattle.watch_words.proofs.option_of.Tie as tie
-use Rattle.watch_words.proofs.option_of.Reads as reads
-use Rattle.watch_words.proofs.option_of.Lts as lts
-use Rattle.watch_words.proofs.is.Reads as is-reads
 
--- src/lib.rt:40:17
 slice-aggregate-is : tie.Need-slice-aggregate-is
 slice-aggregate-is c = search needs
 
--- src/lib.rt:40:8
 is-requires : tie.Need-is-requires
 is-requires c κs = search needs
 
--- src/lib.rt:41:9
 returns : tie.Need-returns
 unfolding named
 returns c = simp (sym (c .before .is .ensures) ∙ c .if1 .taken)
 
--- src/lib.rt:43:17
 slice-aggregate-is-2 : tie.Need-slice-aggregate-is-2
 slice-aggregate-is-2 c = search needs
 
--- src/lib.rt:43:8
 is-requires-2 : tie.Need-is-requires-2
 is-requires-2 c κs = search needs
 
--- src/lib.rt:44:9
 returns-2 : tie.Need-returns-2
 unfolding named
 returns-2 c = simp (sym (c .before .before .before .before .is .ensures) ∙ c .before .before .before .if1 .left, sym (c .before .is2 .ensures) ∙ c .if2 .taken)
 
--- src/lib.rt:46:17
 slice-aggregate-is-3 : tie.Need-slice-aggregate-is-3
 slice-aggregate-is-3 c = search needs
 
--- src/lib.rt:46:8
 is-requires-3 : tie.Need-is-requires-3
 is-requires-3 c κs = search needs
 
--- src/lib.rt:47:9
 returns-3 : tie.Need-returns-3
 unfolding named
 returns-3 c = simp (sym (c .before .before .before .before .before .before .before .is .ensures) ∙ c .before .before .before .before .before .before .if1 .left, sym (c .before .before .before .before .is2 .ensures) ∙ c .before .before .before .if2 .left, sym (c .before .is3 .ensures) ∙ c .if3 .taken)
 
--- src/lib.rt:49:17
 slice-aggregate-is-4 : tie.Need-slice-aggregate-is-4
 slice-aggregate-is-4 c = search needs
 
--- src/lib.rt:49:8
 is-requires-4 : tie.Need-is-requires-4
 is-requires-4 c κs = search needs
 
--- src/lib.rt:50:9
 returns-4 : tie.Need-returns-4
 unfolding named
 returns-4 c = simp (sym (c .before .before .before .before .before .before .before .before .before .before .is .ensures) ∙ c .before .before .before .before .before .before .before .before .before .if1 .left, sym (c .before .before .before .before .before .before .before .is2 .ensures) ∙ c .before .before .before .before .before .before .if2 .left, sym (c .before .before .before .before .is3 .ensures) ∙ c .before .before .before .if3 .left, sym (c .before .is4 .ensures) ∙ c .if4 .taken)
 
--- src/lib.rt:52:17
 slice-aggregate-is-5 : tie.Need-slice-aggregate-is-5
 slice-aggregate-is-5 c = search needs
 
--- src/lib.rt:52:8
 is-requires-5 : tie.Need-is-requires-5
 is-requires-5 c κs = search needs
 
--- src/lib.rt:53:9
 returns-5 : tie.Need-returns-5
 unfolding named
 returns-5 c = simp (sym (c .before .before .before .before .before .before .before .before .before .before .before .before .before .is .ensures) ∙ c .before .before .before .before .before .before .before .before .before .before .before .before .if1 .left, sym (c .before .before .before .before .before .before .before .before .before .before .is2 .ensures) ∙ c .before .before .before .before .before .before .before .before .before .if2 .left, sym (c .before .before .before .before .before .before .before .is3 .ensures) ∙ c .before .before .before .before .before .before .if3 .left, sym (c .before .before .before .before .is4 .ensures) ∙ c .before .before .before .if4 .left, sym (c .before .is5 .ensures) ∙ c .if5 .taken)
 
--- src/lib.rt:55:17
 slice-aggregate-is-6 : tie.Need-slice-aggregate-is-6
 slice-aggregate-is-6 c = search needs
 
--- src/lib.rt:55:8
 is-requires-6 : tie.Need-is-requires-6
 is-requires-6 c κs = search needs
 
--- src/lib.rt:56:9
 returns-6 : tie.Need-returns-6
 unfolding named
 returns-6 c = simp (sym (c .before .before .before .before .before .before .before .before .before .before .before .before .before .before .before .before .is .ensures) ∙ c .before .before .before .before .before .before .before .before .before .before .before .before .before .before .before .if1 .left, sym (c .before .before .before .before .before .before .before .before .before .before .before .before .before .is2 .ensures) ∙ c .before .before .before .before .before .before .before .before .before .before .before .before .if2 .left, sym (c .before .before .before .before .before .before .before .before .before .before .is3 .ensures) ∙ c .before .before .before .before .before .before .before .before .before .if3 .left, sym (c .before .before .before .before .before .before .before .is4 .ensures) ∙ c .before .before .before .before .before .before .if4 .left, sym (c .before .before .before .before .is5 .ensures) ∙ c .before .before .before .if5 .left, sym (c .before .is6 .ensures) ∙ c .if6 .taken)
 
--- src/lib.rt:58:17
 slice-aggregate-is-7 : tie.Need-slice-aggregate-is-7
 slice-aggregate-is-7 c = search needs
 
--- src/lib.rt:58:8
 is-requires-7 : tie.Need-is-requires-7
 is-requires-7 c κs = search needs
 
--- src/lib.rt:59:9
 returns-7 : tie.Need-returns-7
 unfolding named
 returns-7 c = simp (sym (c .before .before .before .before .before .before .before .before .before .before .before .before .before .before .before .before .before .before .before .is .ensures) ∙ c .before .before .before .before .before .before .before .before .before .before .before .before .before .before .before .before .before .before .if1 .left, sym (c .before .before .before .before .before .before .before .before .before .before .before .before .before .before .before .before .is2 .ensures) ∙ c .before .before .before .before .before .before .before .before .before .before .before .before .before .before .before .if2 .left, sym (c .before .before .before .before .before .before .before .before .before .before .before .before .before .is3 .ensures) ∙ c .before .before .before .before .before .before .before .before .before .before .before .before .if3 .left, sym (c .before .before .before .before .before .before .before .before .before .before .is4 .ensures) ∙ c .before .before .before .before .before .before .before .before .before .if4 .left, sym (c .before .before .before .before .before .before .before .is5 .ensures) ∙ c .before .before .before .before .before .before .if5 .left, sym (c .before .before .before .before .is6 .ensures) ∙ c .before .before .before .if6 .left, sym (c .before .is7 .ensures) ∙ c .if7 .taken)
 
--- src/lib.rt:61:17
 slice-aggregate-is-8 : tie.Need-slice-aggregate-is-8
 slice-aggregate-is-8 c = search needs
 
--- src/lib.rt:61:8
 is-requires-8 : tie.Need-is-requires-8
 is-requires-8 c κs = search needs
 
--- src/lib.rt:62:9
 returns-8 : tie.Need-returns-8
 unfolding named
 returns-8 c = simp (sym (c .before .before .before .before .before .before .before .before .before .before .before .before .before .before .before .before .before .before .before .before .before .before .is .ensures) ∙ c .before .before .before .before .before .before .before .before .before .before .before .before .before .before .before .before .before .before .before .before .before .if1 .left, sym (c .before .before .before .before .before .before .before .before .before .before .before .before .before .before .before .before .before .before .before .is2 .ensures) ∙ c .before .before .before .before .before .before .before .before .before .before .before .before .before .before .before .before .before .before .if2 .left, sym (c .before .before .before .before .before .before .before .before .before .before .before .before .before .before .before .before .is3 .ensures) ∙ c .before .before .before .before .before .before .before .before .before .before .before .before .before .before .before .if3 .left, sym (c .before .before .before .before .before .before .before .before .before .before .before .before .before .is4 .ensures) ∙ c .before .before .before .before .before .before .before .before .before .before .before .before .if4 .left, sym (c .before .before .before .before .before .before .before .before .before .before .is5 .ensures) ∙ c .before .before .before .before .before .before .before .before .before .if5 .left, sym (c .before .before .before .before .before .before .before .is6 .ensures) ∙ c .before .before .before .before .before .before .if6 .left, sym (c .before .before .before .before .is7 .ensures) ∙ c .before .before .before .if7 .left, sym (c .before .is8 .ensures) ∙ c .if8 .taken)
 
--- src/lib.rt:37:1
+slice-aggregate-is-9 : tie.Need-slice-aggregate-is-9
+slice-aggregate-is-9 c = search needs
+
+is-requires-9 : tie.Need-is-requires-9
+is-requires-9 c κs = search needs
+
 returns-9 : tie.Need-returns-9
 unfolding named
-returns-9 c = simp (sym (c .before .before .before .before .before .before .before .before .before .before .before .before .before .before .before .before .before .before .before .before .before .before .is .ensures) ∙ c .before .before .before .before .before .before .before .before .before .before .before .before .before .before .before .before .before .before .before .before .before .if1 .left, sym (c .before .before .before .before .before .before .before .before .before .before .before .before .before .before .before .before .before .before .before .is2 .ensures) ∙ c .before .before .before .before .before .before .before .before .before .before .before .before .before .before .before .before .before .before .if2 .left, sym (c .before .before .before .before .before .before .before .before .before .before .before .before .before .before .before .before .is3 .ensures) ∙ c .before .before .before .before .before .before .before .before .before .before .before .before .before .before .before .if3 .left, sym (c .before .before .before .before .before .before .before .before .before .before .before .before .before .is4 .ensures) ∙ c .before .before .before .before .before .before .before .before .before .before .before .before .if4 .left, sym (c .before .before .before .before .before .before .before .before .before .before .is5 .ensures) ∙ c .before .before .before .before .before .before .before .before .before .if5 .left, sym (c .before .before .before .before .before .before .before .is6 .ensures) ∙ c .before .before .before .before .before .before .if6 .left, sym (c .before .before .before .before .is7 .ensures) ∙ c .before .before .before .if7 .left, sym (c .before .is8 .ensures) ∙ c .if8 .left)
+returns-9 c = simp (sym (c .before .before .before .before .before .before .before .before .before .before .before .before .before .before .before .before .before .before .before .before .before .before .before .before .before .is .ensures) ∙ c .before .before .before .before .before .before .before .before .before .before .before .before .before .before .before .before .before .before .before .before .before .before .before .before .if1 .left, sym (c .before .before .before .before .before .before .before .before .before .before .before .before .before .before .before .before .before .before .before .before .before .before .is2 .ensures) ∙ c .before .before .before .before .before .before .before .before .before .before .before .before .before .before .before .before .before .before .before .before .before .if2 .left, sym (c .before .before .before .before .before .before .before .before .before .before .before .before .before .before .before .before .before .before .before .is3 .ensures) ∙ c .before .before .before .before .before .before .before .before .before .before .before .before .before .before .before .before .before .before .if3 .left, sym (c .before .before .before .before .before .before .before .before .before .before .before .before .before .before .before .before .is4 .ensures) ∙ c .before .before .before .before .before .before .before .before .before .before .before .before .before .before .before .if4 .left, sym (c .before .before .before .before .before .before .before .before .before .before .before .before .before .is5 .ensures) ∙ c .before .before .before .before .before .before .before .before .before .before .before .before .if5 .left, sym (c .before .before .before .before .before .before .before .before .before .before .is6 .ensures) ∙ c .before .before .before .before .before .before .before .before .before .if6 .left, sym (c .before .before .before .before .before .before .before .is7 .ensures) ∙ c .before .before .before .before .before .before .if7 .left, sym (c .before .before .before .before .is8 .ensures) ∙ c .before .before .before .if8 .left, sym (c .before .is9 .ensures) ∙ c .if9 .taken)
+
+returns-10 : tie.Need-returns-10
+unfolding named
+returns-10 c = simp (sym (c .before .before .before .before .before .before .before .before .before .before .before .before .before .before .before .before .before .before .before .before .before .before .before .before .before .is .ensures) ∙ c .before .before .before .before .before .before .before .before .before .before .before .before .before .before .before .before .before .before .before .before .before .before .before .before .if1 .left, sym (c .before .before .before .before .before .before .before .before .before .before .before .before .before .before .before .before .before .before .before .before .before .before .is2 .ensures) ∙ c .before .before .before .before .before .before .before .before .before .before .before .before .before .before .before .before .before .before .before .before .before .if2 .left, sym (c .before .before .before .before .before .before .before .before .before .before .before .before .before .before .before .before .before .before .before .is3 .ensures) ∙ c .before .before .before .before .before .before .before .before .before .before .before .before .before .before .before .before .before .before .if3 .left, sym (c .before .before .before .before .before .before .before .before .before .before .before .before .before .before .before .before .is4 .ensures) ∙ c .before .before .before .before .before .before .before .before .before .before .before .before .before .before .before .if4 .left, sym (c .before .before .before .before .before .before .before .before .before .before .before .before .before .is5 .ensures) ∙ c .before .before .before .before .before .before .before .before .before .before .before .before .if5 .left, sym (c .before .before .before .before .before .before .before .before .before .before .is6 .ensures) ∙ c .before .before .before .before .before .before .before .before .before .if6 .left, sym (c .before .before .before .before .before .before .before .is7 .ensures) ∙ c .before .before .before .before .before .before .if7 .left, sym (c .before .before .before .before .is8 .ensures) ∙ c .before .before .before .if8 .left, sym (c .before .is9 .ensures) ∙ c .if9 .left)
 
 pub option-of-spec : {M : Type 1} → statement M
 option-of-spec =
@@ -144,4 +127,7 @@ option-of-spec =
     slice-aggregate-is-8
     is-requires-8
     returns-8
-    returns-9)
+    slice-aggregate-is-9
+    is-requires-9
+    returns-9
+    returns-10)

@@ -1,136 +1,122 @@
+-- `watch_words::take_any` meets its contract. Assumes nothing.
 use mathlib.Core.Path.{sym, ap, _∙_}
 use borrow.Author.Needs.{needs}
 use Rattle.watch_words.specs.Words.{anyTaken}
 use Rattle.watch_words.proofs.take_any.Statement.{statement}
 use Rattle.watch_words.proofs.take_any.Tie as tie
-use Rattle.watch_words.proofs.take_any.Reads as reads
-use Rattle.watch_words.proofs.take_any.Lts as lts
-use Rattle.watch_words.proofs.awaiting.Reads as awaiting-reads
-use Rattle.watch_words.proofs.faulty.Reads as faulty-reads
-use Rattle.watch_words.proofs.with_file.Reads as with-file-reads
-use Rattle.watch_words.proofs.with_printing.Reads as with-printing-reads
-use Rattle.watch_words.proofs.word_of.Reads as word-of-reads
 
--- src/lib.rt:192:11
 word-of-requires : tie.Need-word-of-requires
 word-of-requires c κs = search needs
 
--- src/lib.rt:193:23
 enum-told : tie.Need-enum-told
 enum-told c = search needs
 
--- src/lib.rt:193:23
 with-printing-requires : tie.Need-with-printing-requires
 with-printing-requires c κs = search needs
 
--- src/lib.rt:194:22
 enum-told-2 : tie.Need-enum-told-2
 enum-told-2 c = search needs
 
--- src/lib.rt:194:22
 with-printing-requires-2 : tie.Need-with-printing-requires-2
 with-printing-requires-2 c κs = search needs
 
--- src/lib.rt:195:28
 enum-told-3 : tie.Need-enum-told-3
 enum-told-3 c = search needs
 
--- src/lib.rt:195:28
 with-printing-requires-3 : tie.Need-with-printing-requires-3
 with-printing-requires-3 c κs = search needs
 
--- src/lib.rt:196:21
 enum-told-4 : tie.Need-enum-told-4
 enum-told-4 c = search needs
 
--- src/lib.rt:196:21
-awaiting-requires : tie.Need-awaiting-requires
-awaiting-requires c κs = search needs
+with-log-requires : tie.Need-with-log-requires
+with-log-requires c κs = search needs
 
--- src/lib.rt:197:22
 enum-told-5 : tie.Need-enum-told-5
 enum-told-5 c = search needs
 
--- src/lib.rt:197:22
-awaiting-requires-2 : tie.Need-awaiting-requires-2
-awaiting-requires-2 c κs = search needs
+awaiting-requires : tie.Need-awaiting-requires
+awaiting-requires c κs = search needs
 
--- src/lib.rt:198:24
 enum-told-6 : tie.Need-enum-told-6
 enum-told-6 c = search needs
 
--- src/lib.rt:198:24
-awaiting-requires-3 : tie.Need-awaiting-requires-3
-awaiting-requires-3 c κs = search needs
+awaiting-requires-2 : tie.Need-awaiting-requires-2
+awaiting-requires-2 c κs = search needs
 
--- src/lib.rt:199:26
 enum-told-7 : tie.Need-enum-told-7
 enum-told-7 c = search needs
 
--- src/lib.rt:199:26
-awaiting-requires-4 : tie.Need-awaiting-requires-4
-awaiting-requires-4 c κs = search needs
+awaiting-requires-3 : tie.Need-awaiting-requires-3
+awaiting-requires-3 c κs = search needs
 
--- src/lib.rt:200:26
 enum-told-8 : tie.Need-enum-told-8
 enum-told-8 c = search needs
 
--- src/lib.rt:200:26
-faulty-requires : tie.Need-faulty-requires
-faulty-requires c κs = search needs
+awaiting-requires-4 : tie.Need-awaiting-requires-4
+awaiting-requires-4 c κs = search needs
 
--- src/lib.rt:201:23
 enum-told-9 : tie.Need-enum-told-9
 enum-told-9 c = search needs
 
--- src/lib.rt:201:23
+faulty-requires : tie.Need-faulty-requires
+faulty-requires c κs = search needs
+
+enum-told-10 : tie.Need-enum-told-10
+enum-told-10 c = search needs
+
 with-file-requires : tie.Need-with-file-requires
 with-file-requires c κs = search needs
 
--- src/lib.rt:189:1
 returns : tie.Need-returns
 unfolding anyTaken
-returns c = c .with-printing .ensures ∙ ap (anyTaken (c .before .before .before .before .before .args .s) (c .before .before .before .before .before .args .i)) (sym (c .before .enum-told .given .1) ∙ c .before .before .before .word-of .ensures)
+returns c = let s = c .before .before .before .before .before .args in
+    c .with-printing .ensures ∙ ap (anyTaken (s .s) (s .i)) (sym (c .before .enum-told .given .1) ∙ c .before .before .before .word-of .ensures)
 
--- src/lib.rt:189:1
 returns-2 : tie.Need-returns-2
 unfolding anyTaken
-returns-2 c = c .with-printing2 .ensures ∙ ap (anyTaken (c .before .before .before .before .before .args .s) (c .before .before .before .before .before .args .i)) (sym (c .before .enum-told2 .given .1) ∙ c .before .before .before .word-of .ensures)
+returns-2 c = let s = c .before .before .before .before .before .args in
+    c .with-printing2 .ensures ∙ ap (anyTaken (s .s) (s .i)) (sym (c .before .enum-told2 .given .1) ∙ c .before .before .before .word-of .ensures)
 
--- src/lib.rt:189:1
 returns-3 : tie.Need-returns-3
 unfolding anyTaken
-returns-3 c = c .with-printing3 .ensures ∙ ap (anyTaken (c .before .before .before .before .before .args .s) (c .before .before .before .before .before .args .i)) (sym (c .before .enum-told3 .given .1) ∙ c .before .before .before .word-of .ensures)
+returns-3 c = let s = c .before .before .before .before .before .args in
+    c .with-printing3 .ensures ∙ ap (anyTaken (s .s) (s .i)) (sym (c .before .enum-told3 .given .1) ∙ c .before .before .before .word-of .ensures)
 
--- src/lib.rt:189:1
 returns-4 : tie.Need-returns-4
 unfolding anyTaken
-returns-4 c = c .awaiting .ensures ∙ ap (anyTaken (c .before .before .before .before .before .args .s) (c .before .before .before .before .before .args .i)) (sym (c .before .enum-told4 .given .1) ∙ c .before .before .before .word-of .ensures)
+returns-4 c = let s = c .before .before .before .before .before .args in
+    c .with-log .ensures ∙ ap (anyTaken (s .s) (s .i)) (sym (c .before .enum-told4 .given .1) ∙ c .before .before .before .word-of .ensures)
 
--- src/lib.rt:189:1
 returns-5 : tie.Need-returns-5
 unfolding anyTaken
-returns-5 c = c .awaiting2 .ensures ∙ ap (anyTaken (c .before .before .before .before .before .args .s) (c .before .before .before .before .before .args .i)) (sym (c .before .enum-told5 .given .1) ∙ c .before .before .before .word-of .ensures)
+returns-5 c = let s = c .before .before .before .before .before .args in
+    c .awaiting .ensures ∙ ap (anyTaken (s .s) (s .i)) (sym (c .before .enum-told5 .given .1) ∙ c .before .before .before .word-of .ensures)
 
--- src/lib.rt:189:1
 returns-6 : tie.Need-returns-6
 unfolding anyTaken
-returns-6 c = c .awaiting3 .ensures ∙ ap (anyTaken (c .before .before .before .before .before .args .s) (c .before .before .before .before .before .args .i)) (sym (c .before .enum-told6 .given .1) ∙ c .before .before .before .word-of .ensures)
+returns-6 c = let s = c .before .before .before .before .before .args in
+    c .awaiting2 .ensures ∙ ap (anyTaken (s .s) (s .i)) (sym (c .before .enum-told6 .given .1) ∙ c .before .before .before .word-of .ensures)
 
--- src/lib.rt:189:1
 returns-7 : tie.Need-returns-7
 unfolding anyTaken
-returns-7 c = c .awaiting4 .ensures ∙ ap (anyTaken (c .before .before .before .before .before .args .s) (c .before .before .before .before .before .args .i)) (sym (c .before .enum-told7 .given .1) ∙ c .before .before .before .word-of .ensures)
+returns-7 c = let s = c .before .before .before .before .before .args in
+    c .awaiting3 .ensures ∙ ap (anyTaken (s .s) (s .i)) (sym (c .before .enum-told7 .given .1) ∙ c .before .before .before .word-of .ensures)
 
--- src/lib.rt:189:1
 returns-8 : tie.Need-returns-8
 unfolding anyTaken
-returns-8 c = c .faulty .ensures ∙ ap (anyTaken (c .before .before .before .before .before .args .s) (c .before .before .before .before .before .args .i)) (sym (c .before .enum-told8 .given .1) ∙ c .before .before .before .word-of .ensures)
+returns-8 c = let s = c .before .before .before .before .before .args in
+    c .awaiting4 .ensures ∙ ap (anyTaken (s .s) (s .i)) (sym (c .before .enum-told8 .given .1) ∙ c .before .before .before .word-of .ensures)
 
--- src/lib.rt:189:1
 returns-9 : tie.Need-returns-9
 unfolding anyTaken
-returns-9 c = c .with-file .ensures ∙ ap (anyTaken (c .before .before .before .before .before .args .s) (c .before .before .before .before .before .args .i)) (sym (c .before .enum-told9 .given .1) ∙ c .before .before .before .word-of .ensures)
+returns-9 c = let s = c .before .before .before .before .before .args in
+    c .faulty .ensures ∙ ap (anyTaken (s .s) (s .i)) (sym (c .before .enum-told9 .given .1) ∙ c .before .before .before .word-of .ensures)
+
+returns-10 : tie.Need-returns-10
+unfolding anyTaken
+returns-10 c = let s = c .before .before .before .before .before .args in
+    c .with-file .ensures ∙ ap (anyTaken (s .s) (s .i)) (sym (c .before .enum-told10 .given .1) ∙ c .before .before .before .word-of .ensures)
 
 pub take-any-spec : {M : Type 1} → statement M
 take-any-spec =
@@ -144,16 +130,18 @@ take-any-spec =
     enum-told-3
     with-printing-requires-3
     enum-told-4
-    awaiting-requires
+    with-log-requires
     enum-told-5
-    awaiting-requires-2
+    awaiting-requires
     enum-told-6
-    awaiting-requires-3
+    awaiting-requires-2
     enum-told-7
-    awaiting-requires-4
+    awaiting-requires-3
     enum-told-8
-    faulty-requires
+    awaiting-requires-4
     enum-told-9
+    faulty-requires
+    enum-told-10
     with-file-requires
     returns
     returns-2
@@ -163,4 +151,5 @@ take-any-spec =
     returns-6
     returns-7
     returns-8
-    returns-9)
+    returns-9
+    returns-10)

@@ -1,0 +1,4 @@
+pub mod Format
+pub mod Read
+pub mod Answers
+pub mod Whole
