@@ -70,13 +70,17 @@ named p =
     ⊎-elim (λ a. inl (a .0, ap rungDb (a .1) ∙ lowest-db))
     (λ b.
     let r = highestRung x in
-    inr (r, record {
-      on-the-ladder = b .0;
-      at-most = λ i h.
-          let s : i + (r - i) ≡ r = omega arith in
-          at-most-below never-falls i (r - i) x (omega (arith, b .0)) (ap (λ (k : ℕ). le (rungValue k) x) s ∙ b .1);
-      above = b .2;
-    }, refl))
+    inr (
+      r,
+      record {
+        on-the-ladder = b .0;
+        at-most = λ i h.
+            let s : i + (r - i) ≡ r = omega arith in
+            at-most-below never-falls i (r - i) x (omega (arith, b .0)) (ap (λ (k : ℕ). le (rungValue k) x) s ∙ b .1);
+        above = b .2;
+      },
+      refl,
+    ))
     (searched rungCount x)
 
 no-nan : (x : Float) → le x nan ≡ false
