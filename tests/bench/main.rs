@@ -7,6 +7,9 @@ mod floor;
 #[allow(dead_code)]
 #[path = "../compare/layout.rs"]
 mod layout;
+mod linear;
+#[path = "../compare/linear_rows.rs"]
+mod linear_rows;
 #[allow(dead_code)]
 #[path = "../compare/log_rows.rs"]
 mod log_rows;
@@ -187,6 +190,8 @@ fn main() {
     silence_rows(512, 600);
     gate_rows(32, 12);
     gate_rows(512, 6);
+    linear::rows(32, 3000);
+    linear::rows(512, 900);
     for n in [32, 512] {
         for kept in [0, 90, 100] {
             logs::rows(n, kept);

@@ -23,7 +23,9 @@ pub fn hop_db(power: &[f32]) -> [f64; 512]
     let mut db = [0.0; 512];
     let mut k: usize = 0;
     while k < power.len() {
-        db[k] = rung_db(rungs::highest_rung(&rungs, powers::power_linear(power[k])));
+        let linear = powers::power_linear(power[k]);
+        let value = rung_db(rungs::highest_rung(&rungs, linear));
+        db[k] = value;
         k += 1;
     }
     db

@@ -62,7 +62,7 @@ unfolding powerDb
 loop-again c =
     let l = c .before .before .before .before .before .before in
     let s = l .before .before .before in
-    let p = c .before .before in (
+    let p = c .before .before .before in (
       turns _ (entry (s .args .power .now)) (l .loop .k) (l .loop .db) (c .rung-db .result) (l .loop .inv .0) (omega arith)
           (c .rung-db .ensures ∙ ap rungDb (c .before .highest-rung .ensures .0 ∙ ap highestRung (p .power-linear .ensures ∙ ap powerLinear (getD-any (s .args .power .now) (l .loop .k) nan f0 (omega arith))))),
       omega arith,
