@@ -95,9 +95,19 @@ returns-9 : tie.Need-returns-9
 unfolding named
 returns-9 c = simp (sym (c .before .before .before .before .before .before .before .before .before .before .before .before .before .before .before .before .before .before .before .before .before .before .before .before .before .is .ensures) ∙ c .before .before .before .before .before .before .before .before .before .before .before .before .before .before .before .before .before .before .before .before .before .before .before .before .if1 .left, sym (c .before .before .before .before .before .before .before .before .before .before .before .before .before .before .before .before .before .before .before .before .before .before .is2 .ensures) ∙ c .before .before .before .before .before .before .before .before .before .before .before .before .before .before .before .before .before .before .before .before .before .if2 .left, sym (c .before .before .before .before .before .before .before .before .before .before .before .before .before .before .before .before .before .before .before .is3 .ensures) ∙ c .before .before .before .before .before .before .before .before .before .before .before .before .before .before .before .before .before .before .if3 .left, sym (c .before .before .before .before .before .before .before .before .before .before .before .before .before .before .before .before .is4 .ensures) ∙ c .before .before .before .before .before .before .before .before .before .before .before .before .before .before .before .if4 .left, sym (c .before .before .before .before .before .before .before .before .before .before .before .before .before .is5 .ensures) ∙ c .before .before .before .before .before .before .before .before .before .before .before .before .if5 .left, sym (c .before .before .before .before .before .before .before .before .before .before .is6 .ensures) ∙ c .before .before .before .before .before .before .before .before .before .if6 .left, sym (c .before .before .before .before .before .before .before .is7 .ensures) ∙ c .before .before .before .before .before .before .if7 .left, sym (c .before .before .before .before .is8 .ensures) ∙ c .before .before .before .if8 .left, sym (c .before .is9 .ensures) ∙ c .if9 .taken)
 
+slice-aggregate-is-10 : tie.Need-slice-aggregate-is-10
+slice-aggregate-is-10 c = search needs
+
+is-requires-10 : tie.Need-is-requires-10
+is-requires-10 c κs = search needs
+
 returns-10 : tie.Need-returns-10
 unfolding named
-returns-10 c = simp (sym (c .before .before .before .before .before .before .before .before .before .before .before .before .before .before .before .before .before .before .before .before .before .before .before .before .before .is .ensures) ∙ c .before .before .before .before .before .before .before .before .before .before .before .before .before .before .before .before .before .before .before .before .before .before .before .before .if1 .left, sym (c .before .before .before .before .before .before .before .before .before .before .before .before .before .before .before .before .before .before .before .before .before .before .is2 .ensures) ∙ c .before .before .before .before .before .before .before .before .before .before .before .before .before .before .before .before .before .before .before .before .before .if2 .left, sym (c .before .before .before .before .before .before .before .before .before .before .before .before .before .before .before .before .before .before .before .is3 .ensures) ∙ c .before .before .before .before .before .before .before .before .before .before .before .before .before .before .before .before .before .before .if3 .left, sym (c .before .before .before .before .before .before .before .before .before .before .before .before .before .before .before .before .is4 .ensures) ∙ c .before .before .before .before .before .before .before .before .before .before .before .before .before .before .before .if4 .left, sym (c .before .before .before .before .before .before .before .before .before .before .before .before .before .is5 .ensures) ∙ c .before .before .before .before .before .before .before .before .before .before .before .before .if5 .left, sym (c .before .before .before .before .before .before .before .before .before .before .is6 .ensures) ∙ c .before .before .before .before .before .before .before .before .before .if6 .left, sym (c .before .before .before .before .before .before .before .is7 .ensures) ∙ c .before .before .before .before .before .before .if7 .left, sym (c .before .before .before .before .is8 .ensures) ∙ c .before .before .before .if8 .left, sym (c .before .is9 .ensures) ∙ c .if9 .left)
+returns-10 c = simp (sym (c .before .before .before .before .before .before .before .before .before .before .before .before .before .before .before .before .before .before .before .before .before .before .before .before .before .before .before .before .is .ensures) ∙ c .before .before .before .before .before .before .before .before .before .before .before .before .before .before .before .before .before .before .before .before .before .before .before .before .before .before .before .if1 .left, sym (c .before .before .before .before .before .before .before .before .before .before .before .before .before .before .before .before .before .before .before .before .before .before .before .before .before .is2 .ensures) ∙ c .before .before .before .before .before .before .before .before .before .before .before .before .before .before .before .before .before .before .before .before .before .before .before .before .if2 .left, sym (c .before .before .before .before .before .before .before .before .before .before .before .before .before .before .before .before .before .before .before .before .before .before .is3 .ensures) ∙ c .before .before .before .before .before .before .before .before .before .before .before .before .before .before .before .before .before .before .before .before .before .if3 .left, sym (c .before .before .before .before .before .before .before .before .before .before .before .before .before .before .before .before .before .before .before .is4 .ensures) ∙ c .before .before .before .before .before .before .before .before .before .before .before .before .before .before .before .before .before .before .if4 .left, sym (c .before .before .before .before .before .before .before .before .before .before .before .before .before .before .before .before .is5 .ensures) ∙ c .before .before .before .before .before .before .before .before .before .before .before .before .before .before .before .if5 .left, sym (c .before .before .before .before .before .before .before .before .before .before .before .before .before .is6 .ensures) ∙ c .before .before .before .before .before .before .before .before .before .before .before .before .if6 .left, sym (c .before .before .before .before .before .before .before .before .before .before .is7 .ensures) ∙ c .before .before .before .before .before .before .before .before .before .if7 .left, sym (c .before .before .before .before .before .before .before .is8 .ensures) ∙ c .before .before .before .before .before .before .if8 .left, sym (c .before .before .before .before .is9 .ensures) ∙ c .before .before .before .if9 .left, sym (c .before .is10 .ensures) ∙ c .if10 .taken)
+
+returns-11 : tie.Need-returns-11
+unfolding named
+returns-11 c = simp (sym (c .before .before .before .before .before .before .before .before .before .before .before .before .before .before .before .before .before .before .before .before .before .before .before .before .before .before .before .before .is .ensures) ∙ c .before .before .before .before .before .before .before .before .before .before .before .before .before .before .before .before .before .before .before .before .before .before .before .before .before .before .before .if1 .left, sym (c .before .before .before .before .before .before .before .before .before .before .before .before .before .before .before .before .before .before .before .before .before .before .before .before .before .is2 .ensures) ∙ c .before .before .before .before .before .before .before .before .before .before .before .before .before .before .before .before .before .before .before .before .before .before .before .before .if2 .left, sym (c .before .before .before .before .before .before .before .before .before .before .before .before .before .before .before .before .before .before .before .before .before .before .is3 .ensures) ∙ c .before .before .before .before .before .before .before .before .before .before .before .before .before .before .before .before .before .before .before .before .before .if3 .left, sym (c .before .before .before .before .before .before .before .before .before .before .before .before .before .before .before .before .before .before .before .is4 .ensures) ∙ c .before .before .before .before .before .before .before .before .before .before .before .before .before .before .before .before .before .before .if4 .left, sym (c .before .before .before .before .before .before .before .before .before .before .before .before .before .before .before .before .is5 .ensures) ∙ c .before .before .before .before .before .before .before .before .before .before .before .before .before .before .before .if5 .left, sym (c .before .before .before .before .before .before .before .before .before .before .before .before .before .is6 .ensures) ∙ c .before .before .before .before .before .before .before .before .before .before .before .before .if6 .left, sym (c .before .before .before .before .before .before .before .before .before .before .is7 .ensures) ∙ c .before .before .before .before .before .before .before .before .before .if7 .left, sym (c .before .before .before .before .before .before .before .is8 .ensures) ∙ c .before .before .before .before .before .before .if8 .left, sym (c .before .before .before .before .is9 .ensures) ∙ c .before .before .before .if9 .left, sym (c .before .is10 .ensures) ∙ c .if10 .left)
 
 pub option-of-spec : {M : Type 1} → statement M
 option-of-spec =
@@ -130,4 +140,7 @@ option-of-spec =
     slice-aggregate-is-9
     is-requires-9
     returns-9
-    returns-10)
+    slice-aggregate-is-10
+    is-requires-10
+    returns-10
+    returns-11)
