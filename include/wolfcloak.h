@@ -108,6 +108,24 @@ uint16_t wolfcloak_spectral_reference(const uint16_t *bank, size_t bank_len, con
 uint16_t wolfcloak_floors(const uint16_t *bank, size_t bank_len, const double *bank_f, size_t bank_f_len,
                           size_t k, double *effective, double *rise, double *raw);
 
+/* Where the effective floor comes from .. */
+#define WOLFCLOAK_EFFECTIVE_OWN_QUARTILE 0 /* the quartile of the channel's own slow hops */
+#define WOLFCLOAK_EFFECTIVE_BLOCK_PLUS_3 1 /* 3 dB over the floor of its block of 32 */
+#define WOLFCLOAK_EFFECTIVE_SEED 2         /* the block's seed: what its first slow hops had in the middle, less 3.8 dB */
+
+/* .. and the rise floor. */
+#define WOLFCLOAK_RISE_EFFECTIVE_FLOOR 0 /* the effective floor */
+#define WOLFCLOAK_RISE_BLOCK 1           /* the floor of the block */
+#define WOLFCLOAK_RISE_SEED 2            /* the block's seed */
+
+/*
+ * Why the floors of channel k are what they are: the origin of its effective floor and of its rise floor, each with the dB that this
+ * rule yields; all four are written, or none. Where two rules give the same, the first in the order above is named. Both floors are
+ * worked out from the stores for this: after wolfcloak_bank_new and updates alone they are the readings above.
+ */
+uint16_t wolfcloak_explain(const uint16_t *bank, size_t bank_len, const double *bank_f, size_t bank_f_len,
+                           size_t k, uint8_t *effective_origin, double *effective, uint8_t *rise_origin, double *rise);
+
 /* Where in bank the ring of channel k lies: bank[*start] to bank[*start + *len - 1], its last 250 bins, 0 to 319. */
 uint16_t wolfcloak_ring(const uint16_t *bank, size_t bank_len, const double *bank_f, size_t bank_f_len,
                         size_t k, size_t *start, size_t *len);

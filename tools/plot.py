@@ -3,17 +3,24 @@
 
     ./watch --csv FILE | tools/plot.py > scene.svg
 
-One strip for each channel over time: its power in dB, its effective and rise floor, a band while the channel is alive, and a mark
-where it rises and where it drops.
+One strip for each channel over time: its power in dB, its effective and rise floor, each in the colour of the rule that yields it, a
+band while the channel is alive, and a mark where it rises and where it drops.
 """
 import csv
 import sys
 
-LEFT, TOP, WIDTH, STRIP, GAP = 74, 78, 980, 84, 14
+LEFT, TOP, WIDTH, STRIP, GAP = 74, 122, 980, 84, 14
 # where the histogram begins
 BOTTOM_DB = -160.0
 # one colour for one meaning
-POWER, EFFECTIVE, RISE, ALIVE, UP, DOWN, TEXT = "#9aa3ad", "#1f5fa8", "#d9822b", "#dcefdc", "#1c7c34", "#b3261e", "#222"
+POWER, ALIVE, UP, DOWN, TEXT = "#b4bbc3", "#dcefdc", "#1c7c34", "#b3261e", "#222"
+# a floor: its column, that of its origin, width, dashes, and the colour of each rule
+FLOORS = {
+    "effective floor": ("effective_floor_db", "effective_origin", 1.7, "",
+                        {"own quartile": "#1f5fa8", "block plus 3": "#8e3fae", "seed": "#00838f"}),
+    "rise floor": ("rise_floor_db", "rise_origin", 1.4, "5 3",
+                   {"effective floor": "#d9822b", "block": "#c2185b", "seed": "#00838f"}),
+}
 
 
 def read(lines):
@@ -35,6 +42,15 @@ def polyline(points, colour, width, dash=""):
     text = " ".join(f"{x:.1f},{y:.1f}" for x, y in points)
     style = f' stroke-dasharray="{dash}"' if dash else ""
     return f'<polyline points="{text}" fill="none" stroke="{colour}" stroke-width="{width}"{style}/>'
+
+
+def parts(rows, origin):
+    """The rows between one change of the origin and the next; each part ends where the next begins."""
+    start = 0
+    for i in range(1, len(rows) + 1):
+        if i == len(rows) or rows[i][origin] != rows[start][origin]:
+            yield rows[start:i + 1]
+            start = i
 
 
 def words(x, y, text, size=12, anchor="start", colour=TEXT):
@@ -64,13 +80,15 @@ def strip(k, rows, top, low, high, seconds):
             end = x_of(row) if row else LEFT + WIDTH
             out.append(f'<rect x="{start:.1f}" y="{top}" width="{end - start:.1f}" height="{STRIP}" fill="{ALIVE}"/>')
             start = None
-    for field, colour, width, dash in (
-        ("db", POWER, 0.7, ""),
-        ("effective_floor_db", EFFECTIVE, 1.6, ""),
-        ("rise_floor_db", RISE, 1.4, "5 3"),
-    ):
+
+    def line(rows, field, colour, width, dash=""):
         points = [(x_of(row), y_of(number(row, field))) for row in rows if number(row, field) == number(row, field)]
-        out.append(polyline(points, colour, width, dash))
+        return polyline(points, colour, width, dash)
+
+    out.append(line(rows, "db", POWER, 0.7))
+    for field, origin, width, dash, rules in FLOORS.values():
+        for part in parts(rows, origin):
+            out.append(line(part, field, rules.get(part[0][origin], TEXT), width, dash))
     for row in rows:
         if "rise" in row["event"]:
             out.append(mark(x_of(row), top + 9, True))
@@ -84,14 +102,17 @@ def strip(k, rows, top, low, high, seconds):
 
 def legend():
     out, x = [], LEFT
-    for colour, text, dash in ((POWER, "power", ""), (EFFECTIVE, "effective floor", ""), (RISE, "rise floor", "5 3")):
-        out.append(polyline([(x, 52), (x + 26, 52)], colour, 2.5, dash))
-        out.append(words(x + 32, 56, text))
-        x += 60 + 7 * len(text)
-    out.append(f'<rect x="{x}" y="45" width="26" height="14" fill="{ALIVE}" stroke="#bcd"/>')
-    out.append(words(x + 32, 56, "alive"))
+    out.append(polyline([(x, 52), (x + 26, 52)], POWER, 2.5) + words(x + 32, 56, "power"))
+    x += 100
+    out.append(f'<rect x="{x}" y="45" width="26" height="14" fill="{ALIVE}" stroke="#bcd"/>' + words(x + 32, 56, "alive"))
     out.append(mark(x + 96, 52, True) + words(x + 106, 56, "rise"))
     out.append(mark(x + 156, 52, False) + words(x + 166, 56, "drop"))
+    for y, (floor, (_, _, _, dash, rules)) in zip((76, 98), FLOORS.items()):
+        out.append(words(LEFT, y, f"{floor} from:"))
+        x = LEFT + 130
+        for rule, colour in rules.items():
+            out.append(polyline([(x, y - 4), (x + 26, y - 4)], colour, 2.5, dash) + words(x + 32, y, rule))
+            x += 150
     return out
 
 
@@ -108,7 +129,7 @@ def main():
     out = [
         f'<svg xmlns="http://www.w3.org/2000/svg" width="{LEFT + WIDTH + 24}" height="{bottom + 34}" font-family="sans-serif">',
         '<rect width="100%" height="100%" fill="white"/>',
-        words(LEFT, 28, "Why a channel came alive: power and floors in dB over time", 16),
+        words(LEFT, 28, "Why a channel came alive: power and floors in dB over time, and where each floor comes from", 16),
     ] + legend()
     for i, k in enumerate(sorted(channels)):
         out += strip(k, channels[k], TOP + i * (STRIP + GAP), low, high, seconds)

@@ -12,6 +12,9 @@ The same seed makes the same bytes. A recording is n in two bytes, then for each
   4 s on        a strong caller on channel 2, 28 dB over the noise at the start, 20 words a minute: CQ CQ DE HB9RF
   13 s on       a weak caller on channel 5, 12 dB over the noise, 13 words a minute: HB9RF DE OE7X K
   10.4 s        a static crash of 0.5 s, 35 dB over everything on every channel, with its flag
+
+Each of the six rules that a floor can come from is at work in it: on channel 0 all of them, between 1.2 s and 2.4 s, while the seed gives
+way to the channel's own quartile.
 """
 import math
 import random

@@ -7,6 +7,9 @@
 
 enum { CHANNELS = 8, HOPS = 1500, TONE = 3 };
 
+/* Where an effective floor comes from, by WOLFCLOAK_EFFECTIVE_OWN_QUARTILE and what follows it. */
+static const char *const rules[] = {"own quartile", "block plus 3", "seed"};
+
 /* A small generator, so that the program prints the same everywhere. */
 static uint32_t state = 1;
 
@@ -65,14 +68,15 @@ int main(void)
             stop("gate_update", r);
         for (int k = 0; k < CHANNELS; k++) {
             int now = alive[k] ? !(drop[k] && !rise[k]) : rise[k];
-            double floor_db;
+            double floor_db, rise_floor_db;
+            uint8_t rule, rise_rule;
             if (now == alive[k])
                 continue;
             alive[k] = now;
-            r = wolfcloak_effective_floor_db(bank, bank_len, bank_f, bank_f_len, (size_t)k, &floor_db);
+            r = wolfcloak_explain(bank, bank_len, bank_f, bank_f_len, (size_t)k, &rule, &floor_db, &rise_rule, &rise_floor_db);
             if (r)
-                stop("effective_floor_db", r);
-            printf("%7.3f s  channel %d  %s  floor %.2f dB\n", hop / 375.0, k, now ? "rise" : "drop", floor_db);
+                stop("explain", r);
+            printf("%7.3f s  channel %d  %s  floor %.2f dB, %s\n", hop / 375.0, k, now ? "rise" : "drop", floor_db, rules[rule]);
         }
     }
     free(bank);

@@ -59,7 +59,7 @@ fn bank_rows(n: usize, rounds: usize) {
     let mut oracle = FloorBank::new(n);
     let (mut u, mut f) = oracle.to_stores();
     assert_eq!(wolfcloak::bank_new(&mut u, &mut f, n), 0);
-    let [mut ordinary, mut slow, mut old_ordinary, mut old_slow, mut sums, mut tests]: [Vec<f64>; 6] = Default::default();
+    let [mut ordinary, mut slow, mut old_ordinary, mut old_slow, mut sums, mut tests, mut explained]: [Vec<f64>; 7] = Default::default();
     for hop in 0..rounds * DECIMATION_HOPS {
         let (db, power) = &hops[hop % hops.len()];
         let is_slow = hop % DECIMATION_HOPS == 0;
@@ -71,16 +71,19 @@ fn bank_rows(n: usize, rounds: usize) {
             sums.push(time(|| sum(black_box(&u))));
             let mut value = 0.0;
             tests.push(time(|| wolfcloak::channel_floor_db(&u, &f, 0, &mut value)));
+            let mut origins = [(0, 0.0); 2];
+            explained.push(time(|| wolfcloak::explain(&u, &f, 0, &mut origins)));
         }
     }
     assert!(oracle.to_stores().0 == u);
-    let [ordinary, slow, old_ordinary, old_slow, sums, tests] =
-        [ordinary, slow, old_ordinary, old_slow, sums, tests].map(median);
+    let [ordinary, slow, old_ordinary, old_slow, sums, tests, explained] =
+        [ordinary, slow, old_ordinary, old_slow, sums, tests, explained].map(median);
     println!("bank, n = {n}");
     row("ordinary hop", ordinary, old_ordinary);
     row("slow hop", slow, old_slow);
     println!("  {:<22} {sums:9.2} µs   ordinary hop / sum {:7.2}", "sum of store", ordinary / sums);
     println!("  {:<22} {tests:9.2} µs   (a reading of the raw floor)", "soundness");
+    println!("  {:<22} {explained:9.2} µs", "explanation");
 }
 
 /// Ordinary hops of digital silence, once the slow hops have filled every ring with one bin.

@@ -1,5 +1,6 @@
 // One set of arguments, lent to every function, and what is compared of each.
 use crate::decibels::plain_dbs;
+use crate::explain::explain;
 use crate::floor::{FloorBank, Gate};
 use crate::layout::place;
 use crate::linear_rows;
@@ -246,7 +247,7 @@ fn gate_hold(t: &mut Tally, what: Arguments, l: &Lent, due: u16) {
     l.compare_marks(t, what, &rise, &drop, marks);
 }
 
-const BEFORE: f64 = 12345.678;
+pub const BEFORE: f64 = 12345.678;
 
 /// The smoothed dB, and the early rise; a refused one leaves the value as it was.
 fn gate_readings(t: &mut Tally, what: Arguments, c: &Call, smoothed: u16, early: u16) {
@@ -292,6 +293,7 @@ pub fn readings_of(t: &mut Tally, what: Arguments, c: &Call, due: u16, oracle: O
     let mut three = [BEFORE; 3];
     t.answer(format_args!("{what}: floors {k}"), lib::floors(u, f, k, &mut three), due);
     t.floats(format_args!("{what}: floors {k}"), &three, &[effective, rise, raw]);
+    explain(t, what, c, due);
     let mut part = [98765, 43210];
     t.answer(format_args!("{what}: ring {k}"), lib::ring(u, f, k, &mut part), due);
     let [start, len] = part;

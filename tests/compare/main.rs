@@ -6,6 +6,7 @@ mod calls;
 #[path = "build/channelizer.rs"]
 mod channelizer;
 mod decibels;
+mod explain;
 mod faults;
 #[allow(dead_code)]
 #[path = "build/floor.rs"]
@@ -63,6 +64,7 @@ fn job(i: usize, seed: u64, alone: &mut Alone) -> Option<Tally> {
         let n = SIZES[i - lists - 1];
         (0..6000 / (n + 10)).for_each(|_| faults::any_sound_store(&mut t, n, &mut rng));
         (0..6000 / (n + 10)).for_each(|_| pairs::any_pairs(&mut t, n, &mut rng));
+        (0..6000 / (n + 10)).for_each(|_| explain::any_sides(&mut t, n, &mut rng));
     } else {
         let run = i - lists - SIZES.len() - 1;
         let Some(&n) = SIZES.get(run / PLANS.len()) else {
@@ -106,6 +108,9 @@ fn main() {
     });
     for (rule, times) in rules::SOUND.iter().chain(&rules::GATE_SOUND).zip(alone) {
         t.check(times > 0 || jobs < usize::MAX, format_args!("the rule '{}' was never broken alone", rule.name));
+    }
+    for (what, times) in explain::SEEN.iter().zip(t.seen) {
+        t.check(times > 0 || jobs < usize::MAX, format_args!("no explanation had '{what}'"));
     }
     let [floors, rises] = t.parted;
     t.check(floors > 0 && rises > 0 || jobs < usize::MAX, format_args!("histories made no difference before the end of the further list"));

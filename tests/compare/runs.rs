@@ -1,6 +1,7 @@
 // Long mixed lists of calls of a bank and a gate from fresh, beside floor.rs.
 use crate::calls::{gate_readings_of, readings_of, Call, Lent};
 use crate::decibels::plain_dbs;
+use crate::explain::as_stored;
 use crate::faults;
 use crate::floor::{FloorBank, Gate};
 use crate::linear_rows;
@@ -193,7 +194,11 @@ pub fn run(t: &mut Tally, n: usize, plan: &Plan, lengths: &[u16], rng: &mut Rng,
             return; // a fault of every hop
         }
         if rng.one_in(4 + n / 8) {
-            both.readings(t, what, rng.below(n));
+            let k = rng.below(n);
+            both.readings(t, what, k);
+            if !plan.injected {
+                as_stored(t, what, &both.u, &both.f, k);
+            }
         }
         if plan.injected && rng.one_in(40) {
             both.inject(rng);

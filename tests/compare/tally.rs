@@ -1,4 +1,5 @@
 // What was compared, and the first differences.
+use crate::explain::Seen;
 use crate::numbers::same;
 use std::fmt::Arguments;
 
@@ -11,6 +12,8 @@ pub struct Tally {
     pub parted: [u64; 2],
     /// marks that untrue pairs gave, and the ladder would not
     pub untrue: u64,
+    /// what explanations named, and of what sides
+    pub seen: Seen,
     pub compared: u64,
     pub differences: u64,
     pub first: Vec<String>,
@@ -59,6 +62,7 @@ impl Tally {
         self.drops += other.drops;
         (0..2).for_each(|i| self.parted[i] += other.parted[i]);
         self.untrue += other.untrue;
+        self.seen.iter_mut().zip(other.seen).for_each(|(all, more)| *all += more);
         self.compared += other.compared;
         self.differences += other.differences;
         self.first.extend(other.first);

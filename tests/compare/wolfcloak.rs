@@ -27,6 +27,10 @@ extern "C" {
     fn wolfcloak_ring(
         b: *const u16, bl: usize, f: *const f64, fl: usize, k: usize, start: *mut usize, len: *mut usize,
     ) -> u16;
+    fn wolfcloak_explain(
+        b: *const u16, bl: usize, f: *const f64, fl: usize, k: usize,
+        effective_origin: *mut u8, effective: *mut f64, rise_origin: *mut u8, rise: *mut f64,
+    ) -> u16;
     fn wolfcloak_gate_f_len(n: usize, lengths: *const u16, lengths_len: usize) -> usize;
     fn wolfcloak_gate_new(
         g: *mut u16, gl: usize, h: *mut f64, hl: usize, n: usize,
@@ -94,6 +98,13 @@ pub fn floors(u: &[u16], f: &[f64], k: usize, v: &mut [f64; 3]) -> u16 {
 pub fn ring(u: &[u16], f: &[f64], k: usize, part: &mut [usize; 2]) -> u16 {
     let [start, len] = part;
     unsafe { wolfcloak_ring(u.as_ptr(), u.len(), f.as_ptr(), f.len(), k, start, len) }
+}
+
+/// The effective floor's origin and its dB, and the rise floor's.
+pub fn explain(u: &[u16], f: &[f64], k: usize, origins: &mut [(u8, f64); 2]) -> u16 {
+    let [(effective_origin, effective), (rise_origin, rise)] = origins;
+    let (ul, fl) = (u.len(), f.len());
+    unsafe { wolfcloak_explain(u.as_ptr(), ul, f.as_ptr(), fl, k, effective_origin, effective, rise_origin, rise) }
 }
 
 pub fn gate_f_len(n: usize, lengths: &[u16]) -> usize {

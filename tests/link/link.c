@@ -43,6 +43,7 @@ static void bench_h(void)
     uint16_t *bank = malloc(len * sizeof *bank);
     double *bank_f = malloc(f_len * sizeof *bank_f), db[2] = {-100, -60}, value, effective, rise, raw;
     float power[2] = {1e-10f, 1e-6f};
+    uint8_t effective_origin = 9, rise_origin = 9;
 
     if (!bank || !bank_f)
         exit(1);
@@ -60,6 +61,18 @@ static void bench_h(void)
     expect("effective of floors", effective, -80 - 3.8);
     expect("rise of floors", rise, -79.75);
     expect("raw of floors", raw, -99.75);
+    expect("explain", wolfcloak_explain(bank, len, bank_f, f_len, 0, &effective_origin, &effective, &rise_origin, &rise), WOLFCLOAK_OK);
+    expect("origin of the first's effective floor", effective_origin, WOLFCLOAK_EFFECTIVE_SEED);
+    expect("effective floor explained", effective, -80 - 3.8);
+    expect("origin of the first's rise floor", rise_origin, WOLFCLOAK_RISE_BLOCK);
+    expect("rise floor explained", rise, -79.75);
+    expect("explain", wolfcloak_explain(bank, len, bank_f, f_len, 1, &effective_origin, &effective, &rise_origin, &rise), WOLFCLOAK_OK);
+    expect("origin of the second's effective floor", effective_origin, WOLFCLOAK_EFFECTIVE_BLOCK_PLUS_3);
+    expect("origin of the second's rise floor", rise_origin, WOLFCLOAK_RISE_EFFECTIVE_FLOOR);
+    expect("rise floor explained", rise, -76.75);
+    expect("a channel too many", wolfcloak_explain(bank, len, bank_f, f_len, 2, &effective_origin, &effective, &rise_origin, &rise),
+           WOLFCLOAK_REFUSED_CHANNEL);
+    expect("origin after a refusal", rise_origin, WOLFCLOAK_RISE_EFFECTIVE_FLOOR);
     expect("spectral_reference", wolfcloak_spectral_reference(bank, len, bank_f, f_len, 1, &value), WOLFCLOAK_OK);
     expect("spectral reference of the second", value, (double)power[0] + 1e-20);
     expect("ring", wolfcloak_ring(bank, len, bank_f, f_len, 1, &start, &count), WOLFCLOAK_OK);

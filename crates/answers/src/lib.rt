@@ -1,4 +1,6 @@
 // A reading taken apart for C: the answer's number, and what is written behind the caller's references, only where the number is 0.
+pub mod explained;
+
 ghost use mathlib.Core.Path.{_≡_};
 ghost use Rattle.answers.specs.Answers.{answered, floorsAnswered, ringAnswered};
 use model::layout::RING_LEN;

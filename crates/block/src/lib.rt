@@ -8,9 +8,9 @@ ghost use Rattle.model.specs.Numbers.{fmin, fmax};
 ghost use Rattle.model.specs.Bank.{seedOf, notBelow, effectiveFloor, riseFloor};
 use model::layout::RING_LEN_U16;
 
-const SEED_PUSHES: u16 = 25;
+pub const SEED_PUSHES: u16 = 25;
 
-const BLOCK_ALLOWANCE_DB: f64 = 3.0;
+pub const BLOCK_ALLOWANCE_DB: f64 = 3.0;
 
 const SEED_OFFSET_DB: f64 = 3.8;
 
@@ -33,6 +33,12 @@ pub fn greatest(a: f64, b: f64) -> f64
     if a < b { b } else { a }
 }
 
+pub fn seed(pushes: u16, sum: f64) -> f64
+    ensures { λ r. ⌜ r ≡ seedOf pushes sum ⌝ }
+{
+    sum / (pushes as f64) - SEED_OFFSET_DB
+}
+
 // The seed is worked out only where there is one, so nothing is divided by 0.
 fn not_below_seed(x: f64, early: bool, pushes: u16, sum: f64) -> f64
     ensures { λ r. ⌜ r ≡ notBelow (early && ltb 0 pushes) x (seedOf pushes sum) ⌝ }
@@ -43,7 +49,7 @@ fn not_below_seed(x: f64, early: bool, pushes: u16, sum: f64) -> f64
     if pushes == 0 {
         return x;
     }
-    greatest(x, sum / (pushes as f64) - SEED_OFFSET_DB)
+    greatest(x, seed(pushes, sum))
 }
 
 pub fn effective_floor(usable: f64, block_floor: f64, since: u16, pushes: u16, sum: f64) -> f64

@@ -15,14 +15,16 @@ use Rattle.laws.proofs.Tests.{neither, passed}
 use Rattle.model.specs.Numbers.{f0, fmin}
 use Rattle.model.specs.Layout.{bins, ringLen, blockChannels}
 use Rattle.model.specs.Ring.{since}
-use Rattle.model.specs.Bank.{blocks, effectiveFloor}
+use Rattle.model.specs.Bank.{blocks}
 use Rattle.model.specs.Stores.{bankOf, chanOf, chanPart}
 use Rattle.model.specs.Refusals.{bankRefusal, readRefusal}
-use Rattle.model.specs.Readings.{rawAt, riseAt, effectiveAt, below, above, referenceAt}
+use Rattle.model.specs.Readings.{rawAt, riseAt, below, above, referenceAt}
 use Rattle.model.specs.Sound.{Sound}
 use Rattle.model.specs.GoodBank.{Ready}
 use Rattle.model.proofs.GoodBanks.{ready, channel-at}
 use Rattle.channel_readings.specs.Readable.{Readable}
+use Rattle.channel_readings.specs.Sources.{sourcesAt}
+use Rattle.channel_readings.specs.declared.Sources.{Sources}
 
 pub from-ready : (u : List ℕ) (f : List Float) (k : ℕ) → Ready u f → k < getD u 0 0 → Readable u f k
 unfolding bankOf
@@ -47,6 +49,17 @@ readable u f k e =
 pub float-at : (a w i : ℕ) (f : List Float) → a + w ≤ length f → i < w → getD f (a + i) nan ≡ getD (part a w f) i f0
 float-at a w i f h k = getD-any f (a + i) nan f0 (omega arith) ∙ sym (getD-part a w f i f0 k)
 
+-- what the code gathers of channel k, with n as it was read and e the entries since the leading silence
+abbrev pub gathered : List ℕ → List Float → ℕ → ℕ → ℕ → Sources
+gathered u f k n e =
+    record {
+      usable = getD f (n + k) nan;
+      «block_floor» = getD f (4 * n + k / blockChannels) nan;
+      since = e;
+      pushes = getD u (3 + k / blockChannels) 0;
+      sum = getD f (4 * n + blocks n + k / blockChannels) nan;
+    }
+
 module _ (u : List ℕ) (f : List Float) (k : ℕ) (r : Readable u f k) where
   abbrev N : ℕ
   N = getD u 0 0
@@ -59,27 +72,24 @@ module _ (u : List ℕ) (f : List Float) (k : ℕ) (r : Readable u f k) where
   unfolding bankOf
   rise-is = float-at (3 * N) N k f (omega arith) (r .below)
 
-  pub effective-is : effectiveFloor (getD f (N + k) nan) (getD f (4 * N + k / blockChannels) nan) (since (chanOf (chanPart N u k))) (getD u (3 + k / blockChannels) 0)
-      (getD f (4 * N + blocks N + k / blockChannels) nan)
-      ≡ effectiveAt (bankOf u f) k
-  unfolding effectiveAt bankOf
-  effective-is =
+  pub sources-are : gathered u f k N (since (chanOf (chanPart N u k))) ≡ sourcesAt (bankOf u f) k
+  unfolding sourcesAt bankOf
+  sources-are =
       let usable = float-at N N k f (omega arith) (r .below) in
       let floor = float-at (4 * N) (blocks N) (k / blockChannels) f (omega arith) (omega arith) in
       let pushes = sym (getD-part 3 (blocks N) u (k / blockChannels) 0 (omega arith)) in
       let sum = float-at (4 * N + blocks N) (blocks N) (k / blockChannels) f (omega arith) (omega arith) in
-      λ j. effectiveFloor (usable j) (floor j) (since (sym (channel-at u f k (r .below)) j)) (pushes j) (sum j)
+      λ j.
+      record {
+        usable = usable j;
+        «block_floor» = floor j;
+        since = since (sym (channel-at u f k (r .below)) j);
+        pushes = pushes j;
+        sum = sum j;
+      }
 
-  -- the same as the code has it: n as it was read, and e the entries since the leading silence
-  pub effective-read : (n e : ℕ) → n ≡ N → e ≡ since (chanOf (chanPart n u k))
-      → effectiveFloor (getD f (n + k) nan) (getD f (4 * n + k / blockChannels) nan) e (getD u (3 + k / blockChannels) 0) (getD f (4 * n + blocks n + k / blockChannels) nan)
-      ≡ effectiveAt (bankOf u f) k
-  effective-read n e d h =
-      ap₂
-      (λ (n e : ℕ).
-      effectiveFloor (getD f (n + k) nan) (getD f (4 * n + k / blockChannels) nan) e (getD u (3 + k / blockChannels) 0) (getD f (4 * n + blocks n + k / blockChannels) nan))
-      d (h ∙ ap (λ (n : ℕ). since (chanOf (chanPart n u k))) d)
-      ∙ effective-is
+  pub sources-read : (n e : ℕ) → n ≡ N → e ≡ since (chanOf (chanPart n u k)) → gathered u f k n e ≡ sourcesAt (bankOf u f) k
+  sources-read n e d h = ap₂ (gathered u f k) d (h ∙ ap (λ (n : ℕ). since (chanOf (chanPart n u k))) d) ∙ sources-are
 
 pub block-below : (n k : ℕ) → k < n → k / blockChannels < blocks n
 block-below n k h = omega arith

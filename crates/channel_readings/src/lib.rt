@@ -6,14 +6,25 @@ ghost use Rattle.model.specs.Layout.{ringLen, channelLen};
 ghost use Rattle.model.specs.Stores.{base, bankLen, bankOf};
 ghost use Rattle.model.specs.Readings.{effectiveAt, riseAt, floorsAt, VeryPart};
 ghost use Rattle.channel_readings.specs.Readable.{Readable};
+ghost use Rattle.channel_readings.specs.Sources.{sourcesAt};
 use model::layout::BLOCK_CHANNELS;
 use model::layout::BLOCK_REST;
 use model::layout::CHANNEL_LEN;
 use model::layout::RING_LEN;
 
-pub fn effective_at(bank: &[u16], bank_f: &[f64], k: usize) -> f64
+// The numbers that a channel's effective and rise floor come from: its usable floor, its block's floor, its entries since the leading
+// silence, and its block's seed pushes and seed sum.
+pub struct Sources {
+    pub usable: f64,
+    pub block_floor: f64,
+    pub since: u16,
+    pub pushes: u16,
+    pub sum: f64,
+}
+
+pub fn sources_at(bank: &[u16], bank_f: &[f64], k: usize) -> Sources
     requires { ⌜ Readable (now bank) (now «bank_f») k ⌝ }
-    ensures { λ r. ⌜ r ≡ effectiveAt (bankOf (now (bank .entry)) (now («bank_f» .entry))) k ⌝ }
+    ensures { λ r. ⌜ r ≡ sourcesAt (bankOf (now (bank .entry)) (now («bank_f» .entry))) k ⌝ }
 {
     let n = laws::wide(bank[0]);
     let blocks = (n + BLOCK_REST) / BLOCK_CHANNELS;
@@ -21,13 +32,21 @@ pub fn effective_at(bank: &[u16], bank_f: &[f64], k: usize) -> f64
     let a = 3 + blocks + CHANNEL_LEN * k;
     let e = a + CHANNEL_LEN;
     let since = ring::since(&bank[a..e]);
-    block::effective_floor(
-        bank_f[n + k],
-        bank_f[4 * n + i],
-        since,
-        bank[3 + i],
-        bank_f[4 * n + blocks + i],
-    )
+    Sources {
+        usable: bank_f[n + k],
+        block_floor: bank_f[4 * n + i],
+        since: since,
+        pushes: bank[3 + i],
+        sum: bank_f[4 * n + blocks + i],
+    }
+}
+
+pub fn effective_at(bank: &[u16], bank_f: &[f64], k: usize) -> f64
+    requires { ⌜ Readable (now bank) (now «bank_f») k ⌝ }
+    ensures { λ r. ⌜ r ≡ effectiveAt (bankOf (now (bank .entry)) (now («bank_f» .entry))) k ⌝ }
+{
+    let x = sources_at(bank, bank_f, k);
+    block::effective_floor(x.usable, x.block_floor, x.since, x.pushes, x.sum)
 }
 
 pub fn rise_at(bank: &[u16], bank_f: &[f64], k: usize) -> f64

@@ -3,12 +3,14 @@ ghost use mathlib.Core.Path.{_≡_};
 ghost use Rattle.watch_hops.specs.Followed.{isTaken, takenBytes, stopped, afterHop, followed};
 use laws::least;
 use laws::wide;
+use origins::Explanation;
 use watch_hear::Heard;
 use watch_hear::hear;
 use watch_notices::faults;
 use watch_recording::MOST;
 use watch_recording::Place;
 use watch_recording::Step;
+use watch_report::explanations::explanation_before;
 use watch_report::lines;
 use watch_report::tail;
 use watch_words::Settings;
@@ -114,6 +116,7 @@ fn watch_all(
     let mut place = watch_recording::first_place();
     let mut turns = u64::MAX;
     while turns > 0 && place.is_on {
+        let before = explanation_before(s, bank, bank_f);
         let step = read_hop(fd, s, n, bits, powers, db, power);
         let heard = hear(step, bank, bank_f, gate, gate_f, db, power, rise, drop);
         place = follow(
@@ -122,6 +125,7 @@ fn watch_all(
             s,
             place,
             heard,
+            before,
             bank,
             bank_f,
             gate,
@@ -146,6 +150,7 @@ fn follow(
     s: Settings,
     place: Place,
     heard: Heard,
+    before: Explanation,
     bank: &[u16],
     bank_f: &[f64],
     gate: &[u16],
@@ -167,6 +172,7 @@ fn follow(
         s,
         taken_bytes(heard),
         place,
+        before,
         bank,
         bank_f,
         gate,
@@ -223,6 +229,7 @@ fn take_hop(
     s: Settings,
     size: usize,
     place: Place,
+    before: Explanation,
     bank: &[u16],
     bank_f: &[f64],
     gate: &[u16],
@@ -242,6 +249,7 @@ fn take_hop(
     lines::print_hop(
         place.hop,
         s,
+        before,
         db,
         bank,
         bank_f,

@@ -9,6 +9,9 @@ use Rattle.model.specs.declared.Floors.{Floors}
 use Rattle.watch_text.specs.Text.{Written, putAll, right, decimal, thousandths, millis}
 use Rattle.watch_floats.specs.Floats.{dbText}
 use Rattle.watch_names.specs.Names.{changeName, stateName, eventName}
+use Rattle.origins.specs.Origins.{effectiveDb, riseDb}
+use Rattle.origins.specs.declared.Explanation.{Explanation}
+use Rattle.watch_origins.specs.Told.{effectiveName, riseName}
 
 -- one text after another
 unfoldable pub putTexts : Written → List (List ℕ) → Written
@@ -48,22 +51,45 @@ rowLevels db smoothed f =
 abbrev pub rowEnd : Bool → ℕ → List (List ℕ)
 rowEnd alive event = more (decimal (one alive) ∷ eventName event ∷ [])
 
-abbrev pub rowLine : ℕ → ℕ → Float → Float → Floors → Bool → ℕ → List (List ℕ)
-rowLine hop k db smoothed f alive event = rowStart hop k ++ (rowLevels db smoothed f ++ rowEnd alive event)
+-- where the effective and the rise floor come from (document 02, R-4)
+abbrev pub rowOrigins : Explanation → List (List ℕ)
+rowOrigins x = more (effectiveName (x .effective) ∷ riseName (x .rise) ∷ [])
+
+abbrev pub rowLine : ℕ → ℕ → Float → Float → Floors → Bool → ℕ → Explanation → List (List ℕ)
+rowLine hop k db smoothed f alive event x = rowStart hop k ++ (rowLevels db smoothed f ++ (rowEnd alive event ++ rowOrigins x))
+
+-- an explanation: hop, seconds, effective floor and its origin, rise floor and its origin
+abbrev pub explainLine : ℕ → Explanation → List (List ℕ)
+explainLine hop x =
+    right 8 (decimal hop)
+    ∷ right 10 (secondsText hop)
+    ∷ right 11 (dbText (effectiveDb (x .effective)))
+    ∷ right 16 (effectiveName (x .effective))
+    ∷ right 12 (dbText (riseDb (x .rise)))
+    ∷ right 17 (riseName (x .rise))
+    ∷ []
 
 -- what stands above the channels at the end
 abbrev pub totalLine : ℕ → List (List ℕ)
 totalLine hops =
     ascii "\nAfter " ∷ decimal hops ∷ ascii " hops, " ∷ secondsText hops ∷ ascii " s, floors in dB:\n\n" ∷ []
 
--- a channel at the end: channel, raw, effective and rise floor, seconds alive, rises, whether it is alive
-abbrev pub channelLine : ℕ → Floors → ℕ → ℕ → Bool → List (List ℕ)
-channelLine k f aliveHops rises alive =
+-- a channel at the end, in its parts: channel, raw, effective and rise floor
+abbrev pub channelFloors : ℕ → Floors → List (List ℕ)
+channelFloors k f =
     right 7 (decimal k)
     ∷ right 11 (dbText (f .raw))
     ∷ right 11 (dbText (f .effective))
     ∷ right 12 (dbText (f .rise))
-    ∷ right 10 (secondsText aliveHops)
-    ∷ right 7 (decimal rises)
-    ∷ stateName alive
     ∷ []
+
+-- where the effective floor comes from, and where the rise floor
+abbrev pub originColumns : Explanation → List (List ℕ)
+originColumns x = right 16 (effectiveName (x .effective)) ∷ right 17 (riseName (x .rise)) ∷ []
+
+-- seconds alive, rises, whether it is alive
+abbrev pub channelEnd : ℕ → ℕ → Bool → List (List ℕ)
+channelEnd aliveHops rises alive = right 10 (secondsText aliveHops) ∷ right 7 (decimal rises) ∷ stateName alive ∷ []
+
+abbrev pub channelLine : ℕ → Floors → Explanation → ℕ → ℕ → Bool → List (List ℕ)
+channelLine k f x aliveHops rises alive = channelFloors k f ++ (originColumns x ++ channelEnd aliveHops rises alive)

@@ -1,10 +1,16 @@
 // The lines of a report: which figure stands in which column.
+pub mod explained;
+
 ghost use mathlib.Core.Path.{_≡_};
 ghost use mathlib.Core.List.{[], _∷_};
 ghost use Rattle.laws.specs.Texts.{ascii};
 ghost use Rattle.watch_floats.specs.Floats.{dbText};
-ghost use Rattle.watch_lines.specs.Lines.{putTexts, more, changeLine, rowStart, rowLevels, rowEnd, rowLine, totalLine, channelLine};
+ghost use Rattle.watch_lines.specs.Lines.{putTexts, more, changeLine, rowStart, rowLevels, rowEnd, rowLine, totalLine};
+ghost use Rattle.watch_lines.specs.Lines.{channelFloors, channelEnd, channelLine};
+use crate::explained::put_origins;
+use crate::explained::put_row_origins;
 use model::Floors;
+use origins::Explanation;
 use watch_figures::bit;
 use watch_floats::put_db;
 use watch_names::put_change;
@@ -45,12 +51,14 @@ pub fn put_row_line(
     f: Floors,
     is_alive: bool,
     event: u8,
+    x: Explanation,
 ) -> usize
-    ensures { λ r. ⌜ (now (line .exit), r) ≡ putTexts (now (line .entry), 0) (rowLine hop k db smoothed f «is_alive» event) ⌝ }
+    ensures { λ r. ⌜ (now (line .exit), r) ≡ putTexts (now (line .entry), 0) (rowLine hop k db smoothed f «is_alive» event x) ⌝ }
 {
     let at = put_row_start(line, hop, k);
     let at = put_row_levels(line, at, db, smoothed, f);
-    put_row_end(line, at, is_alive, event)
+    let at = put_row_end(line, at, is_alive, event);
+    put_row_origins(line, at, x)
 }
 
 fn put_row_start(line: &mut [u8; LINE], hop: u64, k: usize) -> usize
@@ -105,16 +113,36 @@ pub fn put_channel_line(
     line: &mut [u8; LINE],
     k: usize,
     f: Floors,
+    x: Explanation,
     alive_hops: u64,
     rises: u64,
     is_alive: bool,
 ) -> usize
-    ensures { λ r. ⌜ (now (line .exit), r) ≡ putTexts (now (line .entry), 0) (channelLine k f «alive_hops» rises «is_alive») ⌝ }
+    ensures { λ r. ⌜ (now (line .exit), r) ≡ putTexts (now (line .entry), 0) (channelLine k f x «alive_hops» rises «is_alive») ⌝ }
+{
+    let at = put_channel_floors(line, k, f);
+    let at = put_origins(line, at, x);
+    put_channel_end(line, at, alive_hops, rises, is_alive)
+}
+
+fn put_channel_floors(line: &mut [u8; LINE], k: usize, f: Floors) -> usize
+    ensures { λ r. ⌜ (now (line .exit), r) ≡ putTexts (now (line .entry), 0) (channelFloors k f) ⌝ }
 {
     let at = put_number(line, 0, k as u64, 7);
     let at = put_db(line, at, f.raw, 11);
     let at = put_db(line, at, f.effective, 11);
-    let at = put_db(line, at, f.rise, 12);
+    put_db(line, at, f.rise, 12)
+}
+
+fn put_channel_end(
+    line: &mut [u8; LINE],
+    at: usize,
+    alive_hops: u64,
+    rises: u64,
+    is_alive: bool,
+) -> usize
+    ensures { λ r. ⌜ (now (line .exit), r) ≡ putTexts (now (line .entry), at) (channelEnd «alive_hops» rises «is_alive») ⌝ }
+{
     let at = put_seconds(line, at, alive_hops, 10);
     let at = put_number(line, at, rises, 7);
     put_state(line, at, is_alive)

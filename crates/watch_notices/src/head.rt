@@ -62,6 +62,10 @@ pub fn print_head(name: &[u8], s: Settings, lengths: &[u16], n: u16) {
     io::write_all(STDOUT_FILENO, name);
     io::write_all(STDOUT_FILENO, b": ");
     print_settings(s, lengths, n);
+    if s.explained > 0 {
+        print_explain_head(s.explained - 1);
+        return;
+    }
     io::write_all(
         STDOUT_FILENO,
         b"     hop   seconds  channel  change   smoothed  effective  rise floor",
@@ -72,10 +76,22 @@ pub fn print_head(name: &[u8], s: Settings, lengths: &[u16], n: u16) {
     io::write_all(STDOUT_FILENO, b"\n");
 }
 
+fn print_explain_head(k: usize) {
+    let mut line = [0u8; LINE];
+    let at = put_text(&mut line, 0, b"Where the floors of channel ");
+    let at = put_number(&mut line, at, k as u64, 0);
+    let at = put_text(&mut line, at, b" come from:\n\n");
+    say(&line, at);
+    io::write_all(
+        STDOUT_FILENO,
+        b"     hop   seconds  effective  effective from  rise floor  rise floor from\n",
+    );
+}
+
 fn print_csv_head(s: Settings) {
     io::write_all(
         STDOUT_FILENO,
-        b"hop,seconds,channel,db,smoothed_db,raw_floor_db,effective_floor_db,rise_floor_db,alive,event",
+        b"hop,seconds,channel,db,smoothed_db,raw_floor_db,effective_floor_db,rise_floor_db,alive,event,effective_origin,rise_origin",
     );
     if s.has_reference {
         io::write_all(STDOUT_FILENO, b",reference");

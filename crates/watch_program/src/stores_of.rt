@@ -150,6 +150,11 @@ fn watch_with(
         faults::print_refusal(name, 0, 0, no);
         return;
     }
+    // A bank of n channels has none to explain beyond.
+    if s.explained > wide(n) {
+        faults::print_refusal(name, 0, 0, 7);
+        return;
+    }
     head::print_head(name, s, lengths, n);
     watch_hops::watch_hops(fd, name, s, n, bank, bank_f, gate, gate_f);
 }

@@ -1,13 +1,16 @@
 -- What a line shows of the bank and the gate: readings, by channel.
 use mathlib.Core.Bool.{Bool, true, false}
 use mathlib.Core.List.{List, [], _∷_}
-use Prim.Native.Nat.{ℕ}
+use Prim.Native.Nat.{ℕ, zero, suc}
 use lib.Ieee.{Float, nan}
 use Rattle.laws.specs.Texts.{ascii}
 use Rattle.model.specs.declared.Floors.{Floors}
 use Rattle.model.specs.declared.Reading.{Reading}
 use Rattle.model.specs.Readings.{valueOr, floorsOr, floorsReading}
 use Rattle.model.specs.GateCalls.{smoothedReading}
+use Rattle.origins.specs.declared.Explanation.{Explanation}
+use Rattle.origins.specs.Origins.{explanationOr, explained}
+use Rattle.watch_origins.specs.Told.{noExplanation}
 use Rattle.watch_text.specs.Text.{right}
 use Rattle.watch_floats.specs.Floats.{powerText}
 use Rattle.watch_figures.specs.Figures.{noFloors}
@@ -18,6 +21,14 @@ floorsShown bu bf k = floorsOr noFloors (floorsReading bu bf k)
 
 abbrev pub smoothedShown : List ℕ → List Float → ℕ → Float
 smoothedShown gu gf k = valueOr nan (smoothedReading gu gf k)
+
+abbrev pub explanationShown : List ℕ → List Float → ℕ → Explanation
+explanationShown bu bf k = explanationOr noExplanation (explained bu bf k)
+
+-- what a hop is held against, where channel k is to be explained, given as k + 1
+abbrev pub explanationBefore : ℕ → List ℕ → List Float → Explanation
+explanationBefore zero bu bf = noExplanation
+explanationBefore (suc k) bu bf = explanationShown bu bf k
 
 -- the spectral reference, at the right of a column, where it is asked for
 abbrev pub referenceColumn : Bool → Reading → List ℕ

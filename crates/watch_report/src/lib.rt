@@ -1,4 +1,5 @@
 // What the program `watch` prints of the hops of a recording.
+pub mod explanations;
 pub mod lines;
 mod out;
 pub mod tail;

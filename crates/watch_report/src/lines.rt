@@ -1,10 +1,13 @@
-// What a hop gives to print: a line for each change, or on a slow hop one for each channel.
+// What a hop gives to print: a line for each change or one explanation, or on a slow hop a row for each channel.
 ghost use mathlib.Core.Path.{_≡_};
 ghost use Rattle.model.specs.Readings.{referenceReading};
 ghost use Rattle.watch_lines.specs.Lines.{putTexts, changeLine, rowLine};
-ghost use Rattle.watch_report.specs.Shown.{floorsShown, smoothedShown, referenceCell};
+ghost use Rattle.watch_report.specs.Shown.{floorsShown, smoothedShown, explanationShown, referenceCell};
+use crate::explanations::explanation_shown;
+use crate::explanations::print_explanation;
 use crate::out::floors_shown;
 use crate::out::put_reference;
+use origins::Explanation;
 use watch_figures::ends_minute;
 use watch_figures::float_at;
 use watch_figures::value;
@@ -34,6 +37,7 @@ fn print_progress(hop: u64) {
 pub fn print_hop(
     hop: u64,
     s: Settings,
+    before: Explanation,
     db: &[f64],
     bank: &[u16],
     bank_f: &[f64],
@@ -45,6 +49,10 @@ pub fn print_hop(
     drop: &[u8],
 ) {
     print_progress(hop);
+    if !s.is_csv && s.explained > 0 {
+        print_explanation(hop, s.explained - 1, before, bank, bank_f);
+        return;
+    }
     if !s.is_csv {
         print_changes(hop, s, bank, bank_f, gate, gate_f, alive, rise, drop);
         return;
@@ -169,11 +177,12 @@ fn put_row_of(
     is_alive: bool,
     event: u8,
 ) -> usize
-    ensures { λ r. ⌜ (now (line .exit), r) ≡ putTexts (now (line .entry), 0) (rowLine hop k db (smoothedShown (now (gate .entry)) (now («gate_f» .entry)) k) (floorsShown (now (bank .entry)) (now («bank_f» .entry)) k) «is_alive» event) ⌝ }
+    ensures { λ r. ⌜ (now (line .exit), r) ≡ putTexts (now (line .entry), 0) (rowLine hop k db (smoothedShown (now (gate .entry)) (now («gate_f» .entry)) k) (floorsShown (now (bank .entry)) (now («bank_f» .entry)) k) «is_alive» event (explanationShown (now (bank .entry)) (now («bank_f» .entry)) k)) ⌝ }
 {
     let f = floors_shown(bank, bank_f, k);
     let smoothed = smoothed_shown(gate, gate_f, k);
-    put_row_line(line, hop, k, db, smoothed, f, is_alive, event)
+    let x = explanation_shown(bank, bank_f, k);
+    put_row_line(line, hop, k, db, smoothed, f, is_alive, event, x)
 }
 
 fn print_row(

@@ -1,4 +1,5 @@
 // The channels at the end of a report.
+use crate::explanations::explanation_shown;
 use crate::out::floors_shown;
 use crate::out::put_reference;
 use libc::STDOUT_FILENO;
@@ -42,7 +43,7 @@ fn print_total(hops: u64) {
     say(&line, at);
     io::write_all(
         STDOUT_FILENO,
-        b"channel        raw  effective  rise floor   alive s  rises  now\n",
+        b"channel        raw  effective  rise floor  effective from  rise floor from   alive s  rises  now\n",
     );
 }
 
@@ -57,7 +58,8 @@ fn print_channel(
 ) {
     let mut line = [0u8; LINE];
     let f = floors_shown(bank, bank_f, k);
-    let at = put_channel_line(&mut line, k, f, alive_hops, rises, is_alive);
+    let x = explanation_shown(bank, bank_f, k);
+    let at = put_channel_line(&mut line, k, f, x, alive_hops, rises, is_alive);
     let at = put_reference(&mut line, at, bank, bank_f, k, s.has_reference && is_alive);
     let at = put_text(&mut line, at, b"\n");
     say(&line, at);

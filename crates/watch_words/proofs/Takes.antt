@@ -4,8 +4,9 @@ use mathlib.Core.List.{List}
 use Prim.Native.Nat.{ℕ}
 use borrow.Author.Tests.{eq-eqb, ne-eqb}
 use Rattle.watch_lengths.specs.Lengths.{lengthsOf}
+use Rattle.watch_channel.specs.Channel.{channelOf}
 use Rattle.watch_words.specs.declared.Settings.{Settings}
-use Rattle.watch_words.specs.Words.{any, noFault, badLengths, lengthsValue, faulty, counting, wordOf, anyTaken, levelTaken, lengthsTaken, wordTaken}
+use Rattle.watch_words.specs.Words.{any, noFault, badLengths, badChannel, lengthsValue, explainValue, faulty, counting, explaining, channelTaken, wordOf, anyTaken, levelTaken, lengthsTaken, wordTaken}
 
 module _ (s : Settings) (i : ℕ) where
   -- a list of lengths that is none, and one of n lengths
@@ -16,6 +17,15 @@ module _ (s : Settings) (i : ℕ) where
   pub listed : (l : List ℕ) (n : ℕ) → (n ≡ 0 → ⊥) → (l, counting s n) ≡ lengthsTaken s i (l, n)
   unfolding lengthsTaken
   listed l n h = simp (ne-eqb n 0 h)
+
+  -- a word that is no channel, and one that is
+  pub no-channel : (v : ℕ) (t : Settings) → v ≡ 0 → t ≡ faulty s badChannel i → t ≡ channelTaken s i v
+  unfolding channelTaken
+  no-channel v t h e = simp (eq-eqb v 0 h, e)
+
+  pub explained : (v : ℕ) → (v ≡ 0 → ⊥) → explaining s v ≡ channelTaken s i v
+  unfolding channelTaken
+  explained v h = simp (ne-eqb v 0 h)
 
   module _ (l w : List ℕ) where
     pub after-fault : (s .fault ≡ noFault → ⊥) → (l, s) ≡ wordTaken (l, s) i w
@@ -30,6 +40,11 @@ module _ (s : Settings) (i : ℕ) where
     unfolding wordTaken
     lengths-due t f d e = simp (eq-eqb (s .fault) 0 f, d, e)
 
-    pub level-due : (t : Settings) → s .fault ≡ noFault → (s .due ≡ any → ⊥) → (s .due ≡ lengthsValue → ⊥) → t ≡ levelTaken s i w → (l, t) ≡ wordTaken (l, s) i w
+    pub channel-due : (t : Settings) → s .fault ≡ noFault → s .due ≡ explainValue → t ≡ channelTaken s i (channelOf w) → (l, t) ≡ wordTaken (l, s) i w
     unfolding wordTaken
-    level-due t f d g e = simp (eq-eqb (s .fault) 0 f, ne-eqb (s .due) 0 d, ne-eqb (s .due) 4 g, e)
+    channel-due t f d e = simp (eq-eqb (s .fault) 0 f, d, e)
+
+    pub level-due : (t : Settings) → s .fault ≡ noFault → (s .due ≡ any → ⊥) → (s .due ≡ lengthsValue → ⊥) → (s .due ≡ explainValue → ⊥) → t ≡ levelTaken s i w
+        → (l, t) ≡ wordTaken (l, s) i w
+    unfolding wordTaken
+    level-due t f d g h e = simp (eq-eqb (s .fault) 0 f, ne-eqb (s .due) 0 d, ne-eqb (s .due) 4 g, ne-eqb (s .due) 5 h, e)

@@ -10,8 +10,9 @@ use Rattle.watch_levels.specs.declared.LevelWord.{LevelWord}
 use Rattle.watch_levels.specs.declared.LevelWord.the-variants.{Is, Wrong}
 use Rattle.watch_levels.specs.Levels.{level, noLevel, levelOf}
 use Rattle.watch_lengths.specs.Lengths.{lengthsOf}
+use Rattle.watch_channel.specs.Channel.{channelOf}
 use Rattle.watch_words.specs.declared.Word.{Word}
-use Rattle.watch_words.specs.declared.Word.the-variants.{Help, Csv, Reference, Log, Linear, On, Off, Early, Lengths, Unknown, File}
+use Rattle.watch_words.specs.declared.Word.the-variants.{Help, Csv, Reference, Log, Linear, On, Off, Early, Lengths, Explain, Unknown, File}
 use Rattle.watch_words.specs.declared.Settings.{Settings}
 
 -- the options by their names
@@ -27,6 +28,7 @@ options =
     ∷ (ascii "--off", Off)
     ∷ (ascii "--early", Early)
     ∷ (ascii "--lengths", Lengths)
+    ∷ (ascii "--explain", Explain)
     ∷ []
 
 unfoldable pub named : List ℕ → List (List ℕ × Word) → Word
@@ -53,6 +55,9 @@ earlyValue = 3
 abbrev pub lengthsValue : ℕ
 lengthsValue = 4
 
+abbrev pub explainValue : ℕ
+explainValue = 5
+
 -- what is wrong with a word
 abbrev pub noFault : ℕ
 noFault = 0
@@ -72,6 +77,9 @@ noValue = 4
 abbrev pub secondFile : ℕ
 secondFile = 5
 
+abbrev pub badChannel : ℕ
+badChannel = 7
+
 -- on at 9 dB, off at 6 dB, in eighths; no early level; three lengths
 abbrev pub defaults : Settings
 defaults =
@@ -86,6 +94,7 @@ defaults =
       «is_log» = false;
       «is_linear» = false;
       file = 0;
+      explained = 0;
       due = any;
       fault = noFault;
       word = 0;
@@ -108,6 +117,7 @@ valued s a b e n =
       «is_log» = s .«is_log»;
       «is_linear» = s .«is_linear»;
       file = s .file;
+      explained = s .explained;
       due = any;
       fault = s .fault;
       word = s .word;
@@ -127,6 +137,7 @@ asking s csv reference help log linear i =
       «is_log» = log;
       «is_linear» = linear;
       file = i;
+      explained = s .explained;
       due = s .due;
       fault = s .fault;
       word = s .word;
@@ -146,9 +157,30 @@ noted s d f i =
       «is_log» = s .«is_log»;
       «is_linear» = s .«is_linear»;
       file = s .file;
+      explained = s .explained;
       due = d;
       fault = f;
       word = i;
+    }
+
+-- settings by which a channel's floors are explained: its number with 1 added
+abbrev pub explaining : Settings → ℕ → Settings
+explaining s v =
+    record {
+      on = s .on;
+      off = s .off;
+      early = s .early;
+      lengths = s .lengths;
+      «is_csv» = s .«is_csv»;
+      «has_reference» = s .«has_reference»;
+      «is_help» = s .«is_help»;
+      «is_log» = s .«is_log»;
+      «is_linear» = s .«is_linear»;
+      file = s .file;
+      explained = v;
+      due = any;
+      fault = s .fault;
+      word = s .word;
     }
 
 -- word i has this fault
@@ -196,6 +228,7 @@ anyTaken s i On = awaiting s onValue i
 anyTaken s i Off = awaiting s offValue i
 anyTaken s i Early = awaiting s earlyValue i
 anyTaken s i Lengths = awaiting s lengthsValue i
+anyTaken s i Explain = awaiting s explainValue i
 anyTaken s i Unknown = faulty s unknown i
 anyTaken s i File = withFile s i
 
@@ -218,12 +251,17 @@ levelTaken s i w = cond (eqb (s .due) earlyValue && sameBytes w (ascii "none")) 
 unfoldable pub lengthsTaken : Settings → ℕ → List ℕ × ℕ → List ℕ × Settings
 lengthsTaken s i p = (p .0, cond (eqb (p .1) 0) (faulty s badLengths i) (counting s (p .1)))
 
+-- a channel's number, with 1 added; 0 is none
+unfoldable pub channelTaken : Settings → ℕ → ℕ → Settings
+channelTaken s i v = cond (eqb v 0) (faulty s badChannel i) (explaining s v)
+
 -- the lengths and the settings after word i. After a fault nothing changes any more
 unfoldable pub wordTaken : List ℕ × Settings → ℕ → List ℕ → List ℕ × Settings
 wordTaken (l, s) i w =
     cond (eqb (s .fault) noFault)
     (cond (eqb (s .due) any) (l, anyTaken s i (wordOf w))
-    (cond (eqb (s .due) lengthsValue) (lengthsTaken s i (lengthsOf w l)) (l, levelTaken s i w)))
+    (cond (eqb (s .due) lengthsValue) (lengthsTaken s i (lengthsOf w l))
+    (cond (eqb (s .due) explainValue) (l, channelTaken s i (channelOf w)) (l, levelTaken s i w))))
     (l, s)
 
 -- after the last word an option may still lack its value

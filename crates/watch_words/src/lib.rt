@@ -5,9 +5,11 @@ ghost use lib.Dec.{eqb};
 ghost use Rattle.laws.specs.Texts.{ascii, sameBytes};
 ghost use Rattle.watch_words.specs.Words.{named, options, wordOf, defaults, defaultLengths, faulty as Words·faulty};
 ghost use Rattle.watch_words.specs.Words.{awaiting as Words·awaiting, withFile, printing, logged, linearly, anyTaken, withLevel, levelTaken, lengthsTaken};
-ghost use Rattle.watch_words.specs.Words.{earlyValue, wordTaken, allTaken};
+ghost use Rattle.watch_words.specs.Words.{earlyValue, channelTaken, wordTaken, allTaken};
 ghost use Rattle.watch_lengths.specs.Lengths.{lengthsOf};
+ghost use Rattle.watch_channel.specs.Channel.{channelOf};
 use check::same;
+use watch_channel::channel_of;
 use watch_lengths::lengths_of;
 use watch_levels::Level;
 use watch_levels::LevelWord;
@@ -26,6 +28,7 @@ pub enum Word {
     Off,
     Early,
     Lengths,
+    Explain,
     Unknown,
     File,
 }
@@ -69,6 +72,9 @@ fn option_of(word: &[u8]) -> Word
     if is(word, b"--lengths") {
         return Word::Lengths;
     }
+    if is(word, b"--explain") {
+        return Word::Explain;
+    }
     Word::Unknown
 }
 
@@ -96,6 +102,8 @@ pub const EARLY: u8 = 3;
 
 pub const LENGTHS: u8 = 4;
 
+pub const EXPLAIN: u8 = 5;
+
 // What is wrong with a word.
 pub const NOTHING: u8 = 0;
 
@@ -110,6 +118,8 @@ pub const NO_VALUE: u8 = 4;
 pub const SECOND_FILE: u8 = 5;
 
 pub const TOO_LONG: u8 = 6;
+
+pub const BAD_CHANNEL: u8 = 7;
 
 pub struct Settings {
     pub on: Level,
@@ -126,6 +136,8 @@ pub struct Settings {
     pub is_linear: bool,
     // The number of the word that names the recording; 0: none does.
     pub file: usize,
+    // The channel whose floors are explained, with 1 added; 0: none is.
+    pub explained: usize,
     // What is due next, and what is wrong with which word.
     pub due: u8,
     pub fault: u8,
@@ -152,6 +164,7 @@ pub fn default_settings() -> Settings
         is_log: false,
         is_linear: false,
         file: 0,
+        explained: 0,
         due: ANY,
         fault: NOTHING,
         word: 0,
@@ -227,6 +240,7 @@ fn take_any(s: Settings, i: usize, word: &[u8]) -> Settings
         Word::Off => awaiting(s, OFF, i),
         Word::Early => awaiting(s, EARLY, i),
         Word::Lengths => awaiting(s, LENGTHS, i),
+        Word::Explain => awaiting(s, EXPLAIN, i),
         Word::Unknown => faulty(s, UNKNOWN, i),
         Word::File => with_file(s, i),
     }
@@ -284,6 +298,18 @@ fn take_lengths(mut s: Settings, i: usize, word: &[u8], lengths: &mut [u16; 8]) 
     s
 }
 
+fn take_channel(mut s: Settings, i: usize, word: &[u8]) -> Settings
+    ensures { λ r. ⌜ r ≡ channelTaken s i (channelOf (now (word .entry))) ⌝ }
+{
+    let v = channel_of(word);
+    if v == 0 {
+        return faulty(s, BAD_CHANNEL, i);
+    }
+    s.due = ANY;
+    s.explained = v;
+    s
+}
+
 // The settings after word i. After a fault nothing changes any more.
 pub fn take_word(s: Settings, i: usize, word: &[u8], lengths: &mut [u16; 8]) -> Settings
     ensures { λ r. ⌜ (now (lengths .exit), r) ≡ wordTaken (now (lengths .entry), s) i (now (word .entry)) ⌝ }
@@ -296,6 +322,9 @@ pub fn take_word(s: Settings, i: usize, word: &[u8], lengths: &mut [u16; 8]) -> 
     }
     if s.due == LENGTHS {
         return take_lengths(s, i, word, lengths);
+    }
+    if s.due == EXPLAIN {
+        return take_channel(s, i, word);
     }
     take_level(s, i, word)
 }

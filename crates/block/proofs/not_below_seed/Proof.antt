@@ -12,16 +12,17 @@ returns-2 : tie.Need-returns-2
 returns-2 c = let s = c .before .before in
     rw (not-false (s .args .early) (c .before .if1 .left), c .if2 .taken)
 
-int-to-float-greatest : tie.Need-int-to-float-greatest
-int-to-float-greatest c = search needs
+seed-requires : tie.Need-seed-requires
+seed-requires c κs = search needs
 
 greatest-requires : tie.Need-greatest-requires
 greatest-requires c κs = search needs
 
 returns-3 : tie.Need-returns-3
 returns-3 c = let s = c .before .before .before .before in
-    simp (not-false (s .args .early) (c .before .before .before .if1 .left), lt-ltb 0 (s .args .pushes) (omega arith)) (c .greatest .ensures)
+    simp (not-false (s .args .early) (c .before .before .before .if1 .left), lt-ltb 0 (s .args .pushes) (omega arith), ← c .before .seed .ensures)
+    (c .greatest .ensures)
 
 pub not-below-seed-spec : {M : Type 1} → statement M
 not-below-seed-spec =
-    tie.close (tie.spec returns returns-2 int-to-float-greatest greatest-requires returns-3)
+    tie.close (tie.spec returns returns-2 seed-requires greatest-requires returns-3)

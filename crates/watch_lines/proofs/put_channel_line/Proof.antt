@@ -1,48 +1,24 @@
 use borrow.Author.Needs.{needs}
-use Rattle.watch_lines.proofs.Texts.{last, then}
+use Rattle.watch_lines.proofs.Texts.{both}
 use Rattle.watch_lines.proofs.put_channel_line.Statement.{statement}
 use Rattle.watch_lines.proofs.put_channel_line.Tie as tie
 
-put-number-requires : tie.Need-put-number-requires
-put-number-requires c κs = search needs
+put-channel-floors-requires : tie.Need-put-channel-floors-requires
+put-channel-floors-requires c κs = search needs
 
-put-db-requires : tie.Need-put-db-requires
-put-db-requires c κs = search needs
+put-origins-requires : tie.Need-put-origins-requires
+put-origins-requires c κs = search needs
 
-put-db-requires-2 : tie.Need-put-db-requires-2
-put-db-requires-2 c κs = search needs
-
-put-db-requires-3 : tie.Need-put-db-requires-3
-put-db-requires-3 c κs = search needs
-
-put-seconds-requires : tie.Need-put-seconds-requires
-put-seconds-requires c κs = search needs
-
-put-number-requires-2 : tie.Need-put-number-requires-2
-put-number-requires-2 c κs = search needs
-
-put-state-requires : tie.Need-put-state-requires
-put-state-requires c κs = search needs
+put-channel-end-requires : tie.Need-put-channel-end-requires
+put-channel-end-requires c κs = search needs
 
 returns : tie.Need-returns
 returns c =
-    then _ _ _ _ _ (c .before .before .before .before .before .before .before .before .before .before .before .before .put-number .ensures)
-    (then _ _ _ _ _ (c .before .before .before .before .before .before .before .before .before .before .put-db .ensures)
-    (then _ _ _ _ _ (c .before .before .before .before .before .before .before .before .put-db2 .ensures)
-    (then _ _ _ _ _ (c .before .before .before .before .before .before .put-db3 .ensures)
-    (then _ _ _ _ _ (c .before .before .before .before .put-seconds .ensures)
-    (then _ _ _ _ _ (c .before .before .put-number2 .ensures)
-    (last _ _ _ (c .put-state .ensures)))))))
+    both _ _ _ _ _ (c .before .before .before .before .put-channel-floors .ensures)
+    (both _ _ _ _ _ (c .before .before .put-origins .ensures)
+    (c .put-channel-end .ensures))
 
 pub put-channel-line-spec : {M : Type 1} → statement M
 put-channel-line-spec =
     tie.close
-    (tie.spec
-    put-number-requires
-    put-db-requires
-    put-db-requires-2
-    put-db-requires-3
-    put-seconds-requires
-    put-number-requires-2
-    put-state-requires
-    returns)
+    (tie.spec put-channel-floors-requires put-origins-requires put-channel-end-requires returns)

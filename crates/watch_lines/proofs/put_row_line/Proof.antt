@@ -12,13 +12,22 @@ put-row-levels-requires c κs = search needs
 put-row-end-requires : tie.Need-put-row-end-requires
 put-row-end-requires c κs = search needs
 
+put-row-origins-requires : tie.Need-put-row-origins-requires
+put-row-origins-requires c κs = search needs
+
 returns : tie.Need-returns
 returns c =
-    both _ _ _ _ _ (c .before .before .before .before .put-row-start .ensures)
-    (both _ _ _ _ _ (c .before .before .put-row-levels .ensures)
-    (c .put-row-end .ensures))
+    both _ _ _ _ _ (c .before .before .before .before .before .before .put-row-start .ensures)
+    (both _ _ _ _ _ (c .before .before .before .before .put-row-levels .ensures)
+    (both _ _ _ _ _ (c .before .before .put-row-end .ensures)
+    (c .put-row-origins .ensures)))
 
 pub put-row-line-spec : {M : Type 1} → statement M
 put-row-line-spec =
     tie.close
-    (tie.spec put-row-start-requires put-row-levels-requires put-row-end-requires returns)
+    (tie.spec
+    put-row-start-requires
+    put-row-levels-requires
+    put-row-end-requires
+    put-row-origins-requires
+    returns)

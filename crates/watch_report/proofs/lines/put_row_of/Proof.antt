@@ -11,15 +11,25 @@ floors-shown-requires c κs = search needs
 smoothed-shown-requires : tie.Need-smoothed-shown-requires
 smoothed-shown-requires c κs = search needs
 
+explanation-shown-requires : tie.Need-explanation-shown-requires
+explanation-shown-requires c κs = search needs
+
 put-row-line-requires : tie.Need-put-row-line-requires
 put-row-line-requires c κs = search needs
 
 returns : tie.Need-returns
 returns c =
-    let a = c .before .before .before .before .before .before .before .before .args in
-    c .put-row-line .ensures ∙ (λ i. putTexts (a .line .now, 0) (rowLine (a .hop) (a .k) (a .db) (c .before .before .smoothed-shown .ensures i) (c .before .before .before .floors-shown .ensures i) (a .is-alive) (a .event)))
+    let x = c .before .before in
+    let a = x .before .before .before .before .before .before .before .args in
+    c .put-row-line .ensures
+    ∙ (λ i. putTexts (a .line .now, 0) (rowLine (a .hop) (a .k) (a .db) (x .before .smoothed-shown .ensures i) (x .before .before .floors-shown .ensures i) (a .is-alive) (a .event) (x .explanation-shown .ensures i)))
 
 pub put-row-of-spec : {M : Type 1} → statement M
 put-row-of-spec =
     tie.close
-    (tie.spec floors-shown-requires smoothed-shown-requires put-row-line-requires returns)
+    (tie.spec
+    floors-shown-requires
+    smoothed-shown-requires
+    explanation-shown-requires
+    put-row-line-requires
+    returns)

@@ -1,0 +1,2 @@
+pub mod Explains
+pub mod Reached
