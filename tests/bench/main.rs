@@ -10,6 +10,8 @@ mod layout;
 mod linear;
 #[path = "../compare/linear_rows.rs"]
 mod linear_rows;
+#[path = "../compare/map_rows.rs"]
+mod map_rows;
 #[allow(dead_code)]
 #[path = "../compare/log_rows.rs"]
 mod log_rows;
@@ -19,6 +21,7 @@ mod logs;
 mod numbers;
 #[path = "../compare/plain_log.rs"]
 mod plain_log;
+mod registers;
 #[path = "../compare/wolfcloak.rs"]
 mod wolfcloak;
 
@@ -195,6 +198,8 @@ fn main() {
     gate_rows(512, 6);
     linear::rows(32, 3000);
     linear::rows(512, 900);
+    registers::rows(32, 6);
+    registers::rows(512, 3);
     for n in [32, 512] {
         for kept in [0, 90, 100] {
             logs::rows(n, kept);
