@@ -1,4 +1,5 @@
 // The C interface of libwolfcloak.a, the rows of R-13, for slices; also for tests/bench.
+#![allow(dead_code)]
 
 #[link(name = "wolfcloak", kind = "static")]
 extern "C" {
@@ -10,6 +11,11 @@ extern "C" {
     fn wolfcloak_gate_update_linear(
         b: *const u16, bl: usize, f: *const f64, fl: usize, g: *mut u16, gl: usize, h: *mut f64, hl: usize,
         power: *const f32, power_len: usize, rise: *mut u8, rise_len: usize, drop: *mut u8, drop_len: usize,
+    ) -> u16;
+    fn wolfcloak_gate_update_linear_map(
+        b: *const u16, bl: usize, f: *const f64, fl: usize, g: *mut u16, gl: usize, h: *mut f64, hl: usize,
+        map: *mut u8, map_len: usize, power: *const f32, power_len: usize,
+        rise: *mut u8, rise_len: usize, drop: *mut u8, drop_len: usize,
     ) -> u16;
 }
 
@@ -31,6 +37,18 @@ pub fn gate_update(
             bank.0.as_ptr(), bank.0.len(), bank.1.as_ptr(), bank.1.len(),
             gate.0.as_mut_ptr(), gate.0.len(), gate.1.as_mut_ptr(), gate.1.len(), power.as_ptr(), power.len(),
             marks.0.as_mut_ptr(), marks.0.len(), marks.1.as_mut_ptr(), marks.1.len(),
+        )
+    }
+}
+
+pub fn gate_update_map(
+    bank: (&[u16], &[f64]), gate: (&mut [u16], &mut [f64]), map: &mut [u8], power: &[f32], marks: (&mut [u8], &mut [u8]),
+) -> u16 {
+    unsafe {
+        wolfcloak_gate_update_linear_map(
+            bank.0.as_ptr(), bank.0.len(), bank.1.as_ptr(), bank.1.len(),
+            gate.0.as_mut_ptr(), gate.0.len(), gate.1.as_mut_ptr(), gate.1.len(), map.as_mut_ptr(), map.len(),
+            power.as_ptr(), power.len(), marks.0.as_mut_ptr(), marks.0.len(), marks.1.as_mut_ptr(), marks.1.len(),
         )
     }
 }

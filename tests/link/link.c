@@ -274,7 +274,7 @@ static void linear_hops(void)
     const double db[2] = {wolfcloak_power_db(loud[0]), wolfcloak_power_db(loud[1])};
     uint16_t with_db[TWO], linear[TWO], gate[2][WOLFCLOAK_GATE_LEN];
     double with_db_f[10], linear_f[10], gate_f[2][14];
-    uint8_t rise[2][2] = {{9, 9}, {8, 8}}, drop[2][2] = {{9, 9}, {8, 8}};
+    uint8_t rise[2][2] = {{9, 9}, {8, 8}}, drop[2][2] = {{9, 9}, {8, 8}}, map[3];
 
     expect("dB of no power", wolfcloak_power_db(0), -200);
     expect("dB of 1", wolfcloak_power_db(1), 0);
@@ -300,6 +300,11 @@ static void linear_hops(void)
     expect("the gate's floats", memcmp(gate_f[0], gate_f[1], sizeof gate_f[0]), 0);
     expect("rise", memcmp(rise[0], rise[1], 2), 0);
     expect("drop", memcmp(drop[0], drop[1], 2), 0);
+    expect("map_new", wolfcloak_map_new(gate[1], 30, gate_f[1], 14, map, 3), WOLFCLOAK_OK);
+    expect("gate_update_linear_map", wolfcloak_gate_update_linear_map(linear, TWO, linear_f, 10, gate[1], 30, gate_f[1], 14, map, 3, loud, 2,
+                                                                      rise[1], 2, drop[1], 2), WOLFCLOAK_OK);
+    expect("rise flags", map[0], rise[1][0] + 2 * rise[1][1]);
+    expect("drop flags", map[1], drop[1][0] + 2 * drop[1][1]);
     linear[1] = 0;
     expect("a NaN power on a slow hop", wolfcloak_bank_update_linear(linear, TWO, linear_f, 10, garbled, 2, false), WOLFCLOAK_OK);
     expect("a power too few", wolfcloak_bank_update_linear(linear, TWO, linear_f, 10, loud, 1, false), WOLFCLOAK_REFUSED_HOP_SIZE);
