@@ -303,6 +303,11 @@ uint16_t wolfcloak_gate_update_linear_map(const uint16_t *bank, size_t bank_len,
                                           uint8_t *map, size_t map_len, const float *power, size_t power_len,
                                           uint8_t *rise, size_t rise_len, uint8_t *drop, size_t drop_len);
 
+/* One hop as for wolfcloak_bank_update_worst, with the same dB. Refuses as that does, but never with 6. */
+uint16_t wolfcloak_bank_update_linear_worst(uint16_t *bank, size_t bank_len, double *bank_f, size_t bank_f_len,
+                                            uint16_t *worst, size_t worst_len, double *worst_f, size_t worst_f_len,
+                                            const float *power, size_t power_len, bool hold_reference);
+
 /* ---- the hop log: what a set heard, hop by hop, only what changed ---- */
 
 /*

@@ -17,6 +17,11 @@ extern "C" {
         map: *mut u8, map_len: usize, power: *const f32, power_len: usize,
         rise: *mut u8, rise_len: usize, drop: *mut u8, drop_len: usize,
     ) -> u16;
+    fn wolfcloak_bank_update_linear_worst(
+        bank: *mut u16, bank_len: usize, bank_f: *mut f64, bank_f_len: usize,
+        worst: *mut u16, worst_len: usize, worst_f: *mut f64, worst_f_len: usize,
+        power: *const f32, power_len: usize, hold_reference: bool,
+    ) -> u16;
 }
 
 pub fn power_db(power: f32) -> f64 {
@@ -49,6 +54,15 @@ pub fn gate_update_map(
             bank.0.as_ptr(), bank.0.len(), bank.1.as_ptr(), bank.1.len(),
             gate.0.as_mut_ptr(), gate.0.len(), gate.1.as_mut_ptr(), gate.1.len(), map.as_mut_ptr(), map.len(),
             power.as_ptr(), power.len(), marks.0.as_mut_ptr(), marks.0.len(), marks.1.as_mut_ptr(), marks.1.len(),
+        )
+    }
+}
+
+pub fn bank_update_worst(bank: (&mut [u16], &mut [f64]), worst: (&mut [u16], &mut [f64]), power: &[f32], hold: bool) -> u16 {
+    unsafe {
+        wolfcloak_bank_update_linear_worst(
+            bank.0.as_mut_ptr(), bank.0.len(), bank.1.as_mut_ptr(), bank.1.len(),
+            worst.0.as_mut_ptr(), worst.0.len(), worst.1.as_mut_ptr(), worst.1.len(), power.as_ptr(), power.len(), hold,
         )
     }
 }

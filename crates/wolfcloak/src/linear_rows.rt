@@ -3,6 +3,7 @@ ghost use mathlib.Core.Path.{_≡_};
 ghost use Rattle.model.specs.Calls.{bankUpdate};
 ghost use Rattle.model.specs.GateCalls.{gateUpdate};
 ghost use Rattle.model.specs.MapCalls.{gateUpdateMap};
+ghost use Rattle.model.specs.WorstCalls.{worstUpdate};
 ghost use Rattle.model.specs.Decibels.{powerDb, linearHop, linearGateHop};
 
 #[no_mangle]
@@ -53,4 +54,18 @@ pub extern "C" fn wolfcloak_gate_update_linear_map(
     ensures { λ r. ⌜ (r, now (gate .exit), now («gate_f» .exit), now (map .exit), now (rise .exit), now (drop .exit)) ≡ gateUpdateMap (now (bank .entry)) (now («bank_f» .entry)) (now (gate .entry)) (now («gate_f» .entry)) (now (map .entry)) (linearGateHop (now (power .entry))) (now (rise .entry)) (now (drop .entry)) ⌝ }
 {
     gate_linear_map::gate_update_linear_map(bank, bank_f, gate, gate_f, map, power, rise, drop)
+}
+
+#[no_mangle]
+pub extern "C" fn wolfcloak_bank_update_linear_worst(
+    bank: &mut [u16],
+    bank_f: &mut [f64],
+    worst: &mut [u16],
+    worst_f: &mut [f64],
+    power: &[f32],
+    hold_reference: bool,
+) -> u16
+    ensures { λ r. ⌜ (r, now (bank .exit), now («bank_f» .exit), now (worst .exit), now («worst_f» .exit)) ≡ worstUpdate (now (bank .entry)) (now («bank_f» .entry)) (now (worst .entry)) (now («worst_f» .entry)) (linearHop «hold_reference» (now (power .entry))) ⌝ }
+{
+    bank_linear_worst::bank_update_linear_worst(bank, bank_f, worst, worst_f, power, hold_reference)
 }
