@@ -18,7 +18,7 @@ put-worst-requires c κs = search needs
 
 returns-2 : tie.Need-returns-2
 returns-2 c = let a = c .before .before .before .before .before .before .args in
-    cell _ (a .span) (a .x) _ _ (c .before .before .before .before .if1 .left) (c .before .before .put-text .ensures) (c .put-worst .ensures)
+    cell _ (a .span) (a .x) _ _ (c .before .before .before .before .before .if1 .left) (c .before .before .put-text .ensures) (c .put-worst .ensures)
 
 pub put-csv-worst-spec : {M : Type 1} → statement M
 put-csv-worst-spec =
