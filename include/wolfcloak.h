@@ -310,6 +310,17 @@ uint16_t wolfcloak_log_channels(const uint8_t *log, size_t log_len, size_t *n);
 uint16_t wolfcloak_log_read(const uint8_t *log, size_t log_len, size_t *position,
                             uint64_t *db_bits, size_t db_bits_len, uint32_t *power_bits, size_t power_bits_len);
 
+/*
+ * Two antennas, one log: writes the log in which each channel of each hop has the pair of the two logs with the larger power, and *len
+ * becomes its length. The first's on a tie, zeros of either sign tie; a NaN loses to a number, and of two NaNs the first's stays, with
+ * its bits. Bytes of log after it stay as they are; it takes at most 2 + hops * ((n + 7) / 8 + 12 * n) bytes. A log with itself gives
+ * that same log. log must not overlap the two.
+ * Refuses as the reader would that reads first to its end, hop by hop; then likewise for second; then with 13 for another n or another
+ * number of hops, then with 2 where log is too short.
+ */
+uint16_t wolfcloak_log_combine(const uint8_t *first, size_t first_len, const uint8_t *second, size_t second_len,
+                               uint8_t *log, size_t log_len, size_t *len);
+
 /* ---- several band segments, 1 to 8, each with a bank and a gate of its own, on one processor ---- */
 
 /*
