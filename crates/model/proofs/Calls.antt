@@ -1,6 +1,6 @@
--- Calls on the stores of a sound bank and a sound gate: they stay sound, a list of calls is its accepted bank updates on the bank and, but for
+-- Calls on the stores of a sound set: they stay sound, a list of calls is its accepted bank updates on the bank and, but for
 -- the pairs of R-3, its accepted gate updates on the gate, and what is refused hangs on the bank's n and phase, the gate's n and the arguments.
--- What is said of the bank alone asks nothing of the gate. Assumes nothing.
+-- Whether a bank update carries the store of R-6 changes none of it. What is said of the bank alone asks nothing of the other stores. Assumes nothing.
 use mathlib.Core.Path.{_≡_, refl, sym, ap, ap₂, _∙_, subst}
 use mathlib.Core.List.{List, [], _∷_, _++_, map}
 use mathlib.Core.Bool.{Bool, true, false, not, _&&_, _||_}
@@ -14,12 +14,10 @@ use Rattle.model.specs.Layout.{decimationHops}
 use Rattle.model.specs.Bank.{FloorBank, Hop, bankStep}
 use Rattle.model.specs.Stores.{bankOf}
 use Rattle.model.specs.Refusals.{bankRefusal, garbled, updateRefusal}
-use Rattle.model.specs.Calls.{leaves, bankUpdate}
 use Rattle.model.specs.Gate.{Gate, gateStep, updateStep, holdStep, riseBytes}
 use Rattle.model.specs.GateStores.{gateU, gateF, gateOf}
 use Rattle.model.specs.GateCalls.{GateHop, gateRefusal, orElse, pairRefusal, gateUpdateRefusal, holdRefusal, gateLeaves, marksOf, gateUpdate, gateHold}
 use Rattle.model.specs.GoodBank.{Good}
-use Rattle.model.proofs.GoodBanks.{bank-back, passes}
 use Rattle.model.proofs.FreshBanks.{good-step}
 use Rattle.model.specs.GoodGate.{GoodGate}
 use Rattle.model.proofs.GateStores.{gate-forth-u}
@@ -34,7 +32,11 @@ use Rattle.model.proofs.MapRefusals.{is-map, good-map}
 use Rattle.model.proofs.MapReach.{kept-by, write-does, write-answer}
 use Rattle.model.proofs.MapCarried.{hold-same, update-same, update-hears, hold-hears}
 use Rattle.model.specs.Demand3.{Call, Arguments, bank, gate, hold, write, Stores, step, answer, left, risesOf, arguments, leftBy, answers, bankHop, gateHop, bankHops, gateHops, bankIn}
-use Rattle.model.specs.Sets.{gateIn, Sound}
+use Rattle.model.specs.Sets.{gateIn, worstIn, Sound}
+use Rattle.model.specs.Worst.{Worst}
+use Rattle.model.specs.WorstCalls.{worstRefusal}
+use Rattle.model.specs.GoodWorst.{GoodWorst}
+use Rattle.model.proofs.Carrying.{worstAfter, good-worst-after, size-worst-after, leaves-bank, leaves-worst, answer-alone, answer-same}
 use Rattle.model.specs.Remembered.{PairsTrue}
 use Rattle.model.proofs.SettledFloors.{runBank, n-run, phase-run}
 use Rattle.model.proofs.Rises.{runGate, make-run}
@@ -45,28 +47,28 @@ good-run (h ∷ hs) b g = good-run hs (bankStep b h) (good-step b h g)
 
 -- the gate after a call, by its answer
 abbrev pub gateAfter : ℕ → Gate → FloorBank → Arguments → Gate
-gateAfter zero g b (bank h) = g
+gateAfter zero g b (bank c h) = g
 gateAfter zero g b (gate c h rise drop) = updateStep g b (h .db) (h .power)
 gateAfter zero g b (hold c rise drop) = holdStep g b
 gateAfter zero g b (write i v) = g
 gateAfter (suc r) g b c = g
 
 good-after : (r : ℕ) (g : Gate) (b : FloorBank) (c : Arguments) → GoodGate g → GoodGate (gateAfter r g b c)
-good-after zero g b (bank h) q = q
+good-after zero g b (bank c h) q = q
 good-after zero g b (gate c h rise drop) q = good-update g b (h .db) (h .power) q
 good-after zero g b (hold c rise drop) q = good-hold g b q
 good-after zero g b (write i v) q = q
 good-after (suc r) g b c q = q
 
 pub true-after : (r : ℕ) (g : Gate) (b : FloorBank) (c : Arguments) → PairsTrue g → PairsTrue (gateAfter r g b c)
-true-after zero g b (bank h) q = q
+true-after zero g b (bank c h) q = q
 true-after zero g b (gate c h rise drop) q = true-update g b (h .db) (h .power) q
 true-after zero g b (hold c rise drop) q = true-hold g b q
 true-after zero g b (write i v) q = q
 true-after (suc r) g b c q = q
 
 pub bare-after : (r : ℕ) (g : Gate) (b : FloorBank) (c : Arguments) → bare (gateAfter r g b c) ≡ runGate (bare g) (gateHop r c)
-bare-after zero g b (bank h) = refl
+bare-after zero g b (bank c h) = refl
 bare-after zero g b (gate c h rise drop) = bare-update g b (h .db) (h .power)
 bare-after zero g b (hold c rise drop) = bare-hold g b
 bare-after zero g b (write i v) = refl
@@ -74,7 +76,7 @@ bare-after (suc r) g b c = refl
 
 -- ---- what a call leaves
 
--- of the bank, whatever the gate's stores hold
+-- of the bank, whatever the other stores hold
 pub record SoundBank (s : Stores) : Type 0 where
   pub bank-passes : bankRefusal (s .bu) (s .bf) ≡ 0
   pub bank-good : Good (bankIn s)
@@ -82,18 +84,30 @@ pub record SoundBank (s : Stores) : Type 0 where
 pub sound-bank : (s : Stores) → Sound s → SoundBank s
 sound-bank s v = record { bank-passes = v .bank-passes; bank-good = v .bank-good }
 
+-- of R-6's store, whatever the others hold
+pub record SoundWorst (s : Stores) : Type 0 where
+  pub worst-passes : worstRefusal (s .wu) (s .wf) ≡ 0
+  pub worst-good : GoodWorst (worstIn s)
+
+pub sound-worst : (s : Stores) → Sound s → SoundWorst s
+sound-worst s v = record { worst-passes = v .worst-passes; worst-good = v .worst-good }
+
+pub record LeftWorst (s : Stores) (c : Call) : Type 0 where
+  pub worst-passes : worstRefusal (left s c .wu) (left s c .wf) ≡ 0
+  pub worst-is : worstIn (left s c) ≡ worstAfter (answer s c) (bankIn s) (worstIn s) (arguments c)
+
 pub record LeftBank (s : Stores) (c : Call) : Type 0 where
   pub bank-passes : bankRefusal (left s c .bu) (left s c .bf) ≡ 0
   pub bank-is : bankIn (left s c) ≡ runBank (bankIn s) (bankHop (answer s c) (arguments c))
 
--- of both
+-- of bank and gate
 pub record Left (s : Stores) (c : Call) : Type 0 where
   pub bank-passes : bankRefusal (left s c .bu) (left s c .bf) ≡ 0
   pub bank-is : bankIn (left s c) ≡ runBank (bankIn s) (bankHop (answer s c) (arguments c))
   pub gate-passes : gateRefusal (left s c .gu) (left s c .gf) ≡ 0
   pub gate-is : gateIn (left s c) ≡ gateAfter (answer s c) (gateIn s) (bankIn s) (arguments c)
 
--- whatever a call answers: no bank update on the bank, nothing on the gate by a bank update
+-- whatever a call answers: no bank update on the bank, nothing on the gate by a bank update, nothing on R-6's store by any other
 no-bank : (r : ℕ) (c : Bool) (h : GateHop) (i j : ℕ) → bankHop r (gate c h i j) ≡ []
 no-bank zero c h i j = refl
 no-bank (suc r) c h i j = refl
@@ -106,20 +120,25 @@ no-bank-write : (r i v : ℕ) → bankHop r (write i v) ≡ []
 no-bank-write zero i v = refl
 no-bank-write (suc r) i v = refl
 
-no-gate : (r : ℕ) (g : Gate) (b : FloorBank) (h : Hop) → gateAfter r g b (bank h) ≡ g
-no-gate zero g b h = refl
-no-gate (suc r) g b h = refl
+no-gate : (r : ℕ) (g : Gate) (b : FloorBank) (c : Bool) (h : Hop) → gateAfter r g b (bank c h) ≡ g
+no-gate zero g b c h = refl
+no-gate (suc r) g b c h = refl
 
 no-gate-write : (r : ℕ) (g : Gate) (b : FloorBank) (i v : ℕ) → gateAfter r g b (write i v) ≡ g
 no-gate-write zero g b i v = refl
 no-gate-write (suc r) g b i v = refl
 
-leaves-bank : (u : List ℕ) (f : List Float) (h : Hop) → bankRefusal u f ≡ 0 → Good (bankOf u f) → (r : ℕ)
-    → (bankRefusal (leaves r (bankStep (bankOf u f) h) u f .1) (leaves r (bankStep (bankOf u f) h) u f .2) ≡ 0)
-    × (bankOf (leaves r (bankStep (bankOf u f) h) u f .1) (leaves r (bankStep (bankOf u f) h) u f .2)
-    ≡ runBank (bankOf u f) (bankHop (leaves r (bankStep (bankOf u f) h) u f .0) (bank h)))
-leaves-bank u f h p g zero = let q = good-step (bankOf u f) h g in (passes (bankStep (bankOf u f) h) q, bank-back (bankStep (bankOf u f) h) q)
-leaves-bank u f h p g (suc r) = (p, refl)
+no-worst : (r : ℕ) (b : FloorBank) (w : Worst) (c : Bool) (h : GateHop) (i j : ℕ) → worstAfter r b w (gate c h i j) ≡ w
+no-worst zero b w c h i j = refl
+no-worst (suc r) b w c h i j = refl
+
+no-worst-hold : (r : ℕ) (b : FloorBank) (w : Worst) (c : Bool) (i j : ℕ) → worstAfter r b w (hold c i j) ≡ w
+no-worst-hold zero b w c i j = refl
+no-worst-hold (suc r) b w c i j = refl
+
+no-worst-write : (r : ℕ) (b : FloorBank) (w : Worst) (i v : ℕ) → worstAfter r b w (write i v) ≡ w
+no-worst-write zero b w i v = refl
+no-worst-write (suc r) b w i v = refl
 
 leaves-gate : (u : List ℕ) (f : List Float) (b : FloorBank) (c : Bool) (h : GateHop) (i j : ℕ) → gateRefusal u f ≡ 0 → GoodGate (gateOf u f) → (r : ℕ)
     → (gateRefusal (gateLeaves r (updateStep (gateOf u f) b (h .db) (h .power)) u f .1) (gateLeaves r (updateStep (gateOf u f) b (h .db) (h .power)) u f .2) ≡ 0)
@@ -148,9 +167,9 @@ leaves-hold u f b c i j p g zero =
 leaves-hold u f b c i j p g (suc r) = (p, refl)
 
 pub left-bank : (s : Stores) → SoundBank s → (c : Call) → LeftBank s c
-unfolding step bankUpdate
-left-bank s v (bank h) =
-    let b = leaves-bank (s .bu) (s .bf) h (v .bank-passes) (v .bank-good) (updateRefusal (s .bu) (s .bf) (h .db) (h .power)) in
+unfolding step
+left-bank s v (bank c h) =
+    let b = leaves-bank (s .bu) (s .bf) (s .wu) (s .wf) h c (v .bank-passes) (v .bank-good) in
     record { bank-passes = b .0; bank-is = b .1 }
 left-bank s v (gate c h rise drop) =
     record { bank-passes = v .bank-passes; bank-is = sym (ap (runBank (bankIn s)) (no-bank (answer s (gate c h rise drop)) c h _ _)) }
@@ -185,15 +204,27 @@ module _ (s : Stores) (v : Sound s) (c : Bool) where
       (leaves-hold (s .gu) (s .gf) (bankIn s) c (length rise) (length drop) (v .gate-passes) (v .gate-good)
       (holdRefusal (s .bu) (s .bf) (s .gu) (s .gf) (length rise) (length drop)))
 
+pub left-worst : (s : Stores) → SoundWorst s → (c : Call) → LeftWorst s c
+unfolding step
+left-worst s v (bank c h) =
+    let w = leaves-worst (s .bu) (s .bf) (s .wu) (s .wf) h c (v .worst-passes) (v .worst-good) in
+    record { worst-passes = w .0; worst-is = w .1 }
+left-worst s v (gate c h rise drop) =
+    record { worst-passes = v .worst-passes; worst-is = sym (no-worst (answer s (gate c h rise drop)) (bankIn s) (worstIn s) c h _ _) }
+left-worst s v (hold c rise drop) =
+    record { worst-passes = v .worst-passes; worst-is = sym (no-worst-hold (answer s (hold c rise drop)) (bankIn s) (worstIn s) c _ _) }
+left-worst s v (write i x) =
+    record { worst-passes = v .worst-passes; worst-is = sym (no-worst-write (answer s (write i x)) (bankIn s) (worstIn s) i x) }
+
 pub left-is : (s : Stores) → Sound s → (c : Call) → Left s c
 unfolding step
-left-is s v (bank h) =
-    let b = left-bank s (sound-bank s v) (bank h) in
+left-is s v (bank c h) =
+    let b = left-bank s (sound-bank s v) (bank c h) in
     record {
       bank-passes = b .bank-passes;
       bank-is = b .bank-is;
       gate-passes = v .gate-passes;
-      gate-is = sym (no-gate (answer s (bank h)) (gateIn s) (bankIn s) h);
+      gate-is = sym (no-gate (answer s (bank c h)) (gateIn s) (bankIn s) c h);
     }
 left-is s v (gate c h rise drop) =
     let b = left-bank s (sound-bank s v) (gate c h rise drop) in
@@ -223,7 +254,7 @@ n-left s c v =
 
 pub map-left : (s : Stores) (c : Call) → Sound s → left s c .map ≡ mapLeftBy (getD (s .gu) 0 0) (s .map) (onMap s c)
 unfolding step onMap
-map-left s (bank h) v = refl
+map-left s (bank c h) v = refl
 map-left s (gate false h rise drop) v = refl
 map-left s (gate true h rise drop) v = update-hears (s .bu) (s .bf) (s .gu) (s .gf) (s .map) (v .map-passes) h rise drop
 map-left s (hold false rise drop) v = refl
@@ -245,15 +276,34 @@ bank-left s c v =
       bank-good = subst Good (sym (l .bank-is)) (good-run (bankHop (answer s c) (arguments c)) (bankIn s) (v .bank-good));
     }
 
+pub worst-left : (s : Stores) (c : Call) → SoundWorst s → SoundWorst (left s c)
+worst-left s c v =
+    let l = left-worst s v c in
+    record {
+      worst-passes = l .worst-passes;
+      worst-good = subst GoodWorst (sym (l .worst-is)) (good-worst-after (answer s c) (bankIn s) (worstIn s) (arguments c) (v .worst-good));
+    }
+
+-- both stay as long as they are
+pub bank-n-left : (s : Stores) (c : Call) → SoundBank s → bankIn (left s c) .n ≡ bankIn s .n
+bank-n-left s c v = ap (λ (b : FloorBank). b .n) (left-bank s v c .bank-is) ∙ n-run (bankHop (answer s c) (arguments c)) (bankIn s)
+
+pub worst-n-left : (s : Stores) (c : Call) → SoundWorst s → worstIn (left s c) .n ≡ worstIn s .n
+worst-n-left s c v = ap (λ (w : Worst). w .n) (left-worst s v c .worst-is) ∙ size-worst-after (answer s c) (bankIn s) (worstIn s) (arguments c)
+
 pub sound-left : (s : Stores) (c : Call) → Sound s → Sound (left s c)
 sound-left s c v =
     let b = bank-left s c (sound-bank s v) in
+    let w = worst-left s c (sound-worst s v) in
     let l = left-is s v c in
     record {
       bank-passes = b .bank-passes;
       bank-good = b .bank-good;
       gate-passes = l .gate-passes;
       gate-good = subst GoodGate (sym (l .gate-is)) (good-after (answer s c) (gateIn s) (bankIn s) (arguments c) (v .gate-good));
+      worst-passes = w .worst-passes;
+      worst-good = w .worst-good;
+      worst-n = worst-n-left s c (sound-worst s v) ∙ v .worst-n ∙ sym (bank-n-left s c (sound-bank s v));
       map-passes = map-stays s c v;
     }
 
@@ -297,29 +347,32 @@ gate-run (c ∷ cs) s v =
 
 -- ---- what is refused
 
--- with sound stores, by the bank's n and phase and the gate's n alone
+-- with sound stores, by the bank's n and phase and the gate's n alone: carrying R-6's store refuses no more
 unfoldable pub refuse : ℕ → ℕ → ℕ → Arguments → ℕ
-refuse nb phase ng (bank h) = first (differ (length (h .db)) nb || differ (length (h .power)) nb) 5 (first (eqb phase 0 && garbled nb (h .db)) 6 0)
+refuse nb phase ng (bank c h) = first (differ (length (h .db)) nb || differ (length (h .power)) nb) 5 (first (eqb phase 0 && garbled nb (h .db)) 6 0)
 refuse nb phase ng (gate c h rise drop) =
     orElse (first (differ nb ng) 8 0) (first (differ (length (h .db)) ng || differ (length (h .power)) ng || differ rise ng || differ drop ng) 5 0)
 refuse nb phase ng (hold c rise drop) = orElse (first (differ nb ng) 8 0) (first (differ rise ng || differ drop ng) 5 0)
 refuse nb phase ng (write i v) = first (not (ltb i (mapLong ng))) 15 0
 
-leaves-answer : (r : ℕ) (b : FloorBank) (u : List ℕ) (f : List Float) → leaves r b u f .0 ≡ r
-leaves-answer zero b u f = refl
-leaves-answer (suc r) b u f = refl
-
 pub gate-answer : (r : ℕ) (g : Gate) (u : List ℕ) (f : List Float) → gateLeaves r g u f .0 ≡ r
 gate-answer zero g u f = refl
 gate-answer (suc r) g u f = refl
 
-pub bank-answer : (s : Stores) → SoundBank s → (h : Hop) (ng : ℕ) → answer s (bank h) ≡ refuse (bankIn s .n) (bankIn s .phase) ng (bank h)
-unfolding step bankUpdate updateRefusal bankOf refuse
-bank-answer s v h ng = leaves-answer (updateRefusal (s .bu) (s .bf) (h .db) (h .power)) _ (s .bu) (s .bf) ∙ rw (v .bank-passes)
+update-refuses : (s : Stores) → SoundBank s → (c : Bool) (h : Hop) (ng : ℕ)
+    → updateRefusal (s .bu) (s .bf) (h .db) (h .power) ≡ refuse (bankIn s .n) (bankIn s .phase) ng (bank c h)
+unfolding updateRefusal bankOf refuse
+update-refuses s v c h ng = rw (v .bank-passes)
+
+pub bank-answer : (s : Stores) → SoundBank s → (h : Hop) (ng : ℕ) → answer s (bank false h) ≡ refuse (bankIn s .n) (bankIn s .phase) ng (bank false h)
+unfolding step
+bank-answer s v h ng = answer-alone (s .bu) (s .bf) (s .wu) (s .wf) h ∙ update-refuses s v false h ng
 
 pub answer-is : (s : Stores) → Sound s → (c : Call) → answer s c ≡ refuse (bankIn s .n) (bankIn s .phase) (gateIn s .n) (arguments c)
 unfolding step gateUpdate gateUpdateRefusal pairRefusal gateHold holdRefusal bankOf gateOf refuse
-answer-is s v (bank h) = bank-answer s (sound-bank s v) h (gateIn s .n)
+answer-is s v (bank c h) =
+    answer-same (s .bu) (s .bf) (s .wu) (s .wf) h c (v .bank-passes) (v .worst-passes) (v .worst-n)
+    ∙ update-refuses s (sound-bank s v) c h (gateIn s .n)
 answer-is s v (gate c h rise drop) =
     ap (λ (a : ℕ × List ℕ × List Float × List ℕ × List ℕ). a .0) (update-same (s .bu) (s .bf) (s .gu) (s .gf) (s .map) (v .map-passes) c h rise drop)
     ∙ gate-answer (gateUpdateRefusal (s .bu) (s .bf) (s .gu) (s .gf) (length (h .db)) (length (h .power)) (length rise) (length drop)) _ (s .gu) (s .gf)
@@ -332,14 +385,14 @@ answer-is s v (write i x) = write-answer (s .gu) (s .gf) (s .map) (v .gate-passe
 -- ---- the rises that an accepted call writes
 
 unfoldable pub judged : Stores → Arguments → List ℕ
-judged s (bank h) = []
+judged s (bank c h) = []
 judged s (gate c h rise drop) = riseBytes (updateStep (gateIn s) (bankIn s) (h .db) (h .power)) (bankIn s)
 judged s (hold c rise drop) = riseBytes (holdStep (gateIn s) (bankIn s)) (bankIn s)
 judged s (write i v) = []
 
 pub rises-are : (s : Stores) → Sound s → (c : Call) → answer s c ≡ 0 → risesOf s c ≡ judged s (arguments c)
 unfolding risesOf judged step gateUpdate gateHold
-rises-are s v (bank h) e = refl
+rises-are s v (bank c h) e = refl
 rises-are s v (gate c h rise drop) e =
     let q = update-same (s .bu) (s .bf) (s .gu) (s .gf) (s .map) (v .map-passes) c h rise drop in
     ap (λ (a : ℕ × List ℕ × List Float × List ℕ × List ℕ). a .3) q

@@ -13,7 +13,7 @@ use Rattle.model.specs.Bank.{FloorBank, freshBank}
 use Rattle.model.specs.Windows.{PowerLooks, stepLook}
 use Rattle.model.specs.Gate.{Gate, among, freshGate, sampleOf, gateStep}
 use Rattle.model.specs.GateCalls.{GateHop, absent, settingsOf}
-use Rattle.model.specs.Demand3.{Call, Arguments, bank, gate, hold, write, Stores, arguments, answer, leftBy, bankHops, gateHops, bankUpdates, gateUpdates, risesOf, bankIn, Making, made, Made, SameFloors, Enough, Same, Demand3}
+use Rattle.model.specs.Demand3.{Call, Arguments, bank, gate, hold, write, Stores, Lent, arguments, answer, leftBy, bankHops, gateHops, bankUpdates, gateUpdates, risesOf, bankIn, Making, made, Made, SameFloors, Enough, Same, Demand3}
 use Rattle.model.specs.Sets.{gateIn, Sound}
 use Rattle.model.specs.Anew.{riseBytesAnew}
 use Rattle.model.specs.Remembered.{PairsTrue}
@@ -26,7 +26,7 @@ use Rattle.model.proofs.Made.{settings, stored-absent, lengths-good, ba
 
 -- ---- a set that has heard a list
 
-module _ (k : Making) (p : Stores) (d : Made k p) where
+module _ (k : Making) (p : Lent) (d : Made k p) where
   bank-heard : (cs : List Call) → bankIn (leftBy (made k p) cs) ≡ runBank (freshBank (k .n)) (bankHops (made k p) cs)
   bank-heard = bank-hears k p (d .bank)
 
@@ -77,7 +77,7 @@ stepped-same s t r db power =
 
 judged-same : (s t : Stores) → Ready s t → (a : Arguments) → judged s a ≡ judged t a
 unfolding judged
-judged-same s t r (bank h) = refl
+judged-same s t r (bank c h) = refl
 judged-same s t r (gate c h i j) =
     update-anew (gateIn s) (bankIn s) (h .db) (h .power) (r .one)
     ∙ stepped-same s t r (h .db) (h .power)
@@ -94,7 +94,7 @@ next-rises s t w r c d e z =
 
 -- ---- demand 3
 
-module _ (k : Making) (p q : Stores) (mp : Made k p) (mq : Made k q) (xs ys : List Call)
+module _ (k : Making) (p q : Lent) (mp : Made k p) (mq : Made k q) (xs ys : List Call)
     (eb : bankUpdates (made k p) xs % decimationHops ≡ bankUpdates (made k q) ys % decimationHops)
     (eg : (m : ℕ) → among m (k .lengths) ≡ true → gateUpdates (made k p) xs % (2 * m) ≡ gateUpdates (made k q) ys % (2 * m))
     (fs gs : List Call) (e : map arguments fs ≡ map arguments gs)

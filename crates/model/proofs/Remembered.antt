@@ -10,14 +10,14 @@ use lib.Ieee.{Float}
 use Rattle.laws.specs.Tests.{first}
 use Rattle.model.specs.Bank.{FloorBank, Hop}
 use Rattle.model.specs.Stores.{bankOf}
-use Rattle.model.specs.Calls.{bankUpdate}
+use Rattle.model.specs.WorstCalls.{Answered, updateIf}
 use Rattle.model.specs.Gate.{Gate, gateStep, updateStep, holdStep, riseBytes, dropBytes}
 use Rattle.model.specs.GateStores.{gateOf}
 use Rattle.model.specs.GateCalls.{GateHop, gateRefusal, pairRefusal, gateUpdateRefusal, holdRefusal, gateLeaves, marksOf, gateUpdate, gateHold}
 use Rattle.model.specs.GoodGate.{GoodGate}
 use Rattle.model.specs.Map.{mapLong}
 use Rattle.model.specs.MapCalls.{mapRefusal}
-use Rattle.model.specs.Demand3.{Call, bank, gate, hold, write, Stores, step, answer, left, arguments, gateHop, bankIn, Making, made, Made}
+use Rattle.model.specs.Demand3.{Call, bank, gate, hold, write, Stores, Lent, step, answer, left, arguments, gateHop, bankIn, Making, made, Made}
 use Rattle.model.specs.Sets.{gateIn, Sound}
 use Rattle.model.specs.Anew.{riseBytesAnew, marksAnew, gateUpdateAnew, gateHoldAnew, leftAnew, seenAnew, allSeenAnew}
 use Rattle.model.specs.Remembered.{PairsTrue, StayTrue, seen, allSeen, AsAnew}
@@ -30,7 +30,7 @@ use Rattle.model.proofs.MapCarried.{hold-same, update-same}
 use Rattle.model.proofs.Calls.{gate-answer, bare-left, sound-left, true-left, true-run}
 use Rattle.model.proofs.Made.{settings, gate-made, sound-made}
 
-true-made : (k : Making) (p : Stores) → Made k p → PairsTrue (gateIn (made k p))
+true-made : (k : Making) (p : Lent) → Made k p → PairsTrue (gateIn (made k p))
 true-made k p d = subst PairsTrue (sym (gate-made k p (d .gate))) (true-fresh (settings k))
 
 pub stay-true : StayTrue
@@ -43,6 +43,8 @@ record Beside (s t : Stores) : Type 0 where
   true-pairs : PairsTrue (gateIn s)
   bu : s .bu ≡ t .bu
   bf : s .bf ≡ t .bf
+  wu : s .wu ≡ t .wu
+  wf : s .wf ≡ t .wf
   passes : gateRefusal (t .gu) (t .gf) ≡ 0
   good : GoodGate (gateIn t)
   gates : bare (gateIn s) ≡ bare (gateIn t)
@@ -104,7 +106,7 @@ shown r m = (r, m .0, m .1)
 
 same-seen : (s t : Stores) → Beside s t → (c : Call) → seen s c ≡ seenAnew t c
 unfolding seen seenAnew gateUpdate gateUpdateAnew gateHold gateHoldAnew
-same-seen s t w (bank h) = ap₂ (λ (u : List ℕ) (f : List Float). (bankUpdate u f h .0, [], [])) (w .bu) (w .bf)
+same-seen s t w (bank c h) = λ i. (updateIf c (w .bu i) (w .bf i) (w .wu i) (w .wf i) h .0, [], [])
 same-seen s t w (gate c h rise drop) =
     let G = updateStep (gateIn s) (bankIn s) (h .db) (h .power) in
     let H = gateStep (gateIn t) (h .db) (h .power) in
@@ -155,9 +157,9 @@ leaves-anew u f c h i j p g zero =
     (gate-passes G q, subst GoodGate (sym (gate-back G q)) q, ap bare (gate-back G q) ∙ bare-step (gateOf u f) (h .db) (h .power))
 leaves-anew u f c h i j p g (suc r) = (p, g, refl)
 
-no-hop : (r : ℕ) (h : Hop) → gateHop r (bank h) ≡ []
-no-hop zero h = refl
-no-hop (suc r) h = refl
+no-hop : (r : ℕ) (c : Bool) (h : Hop) → gateHop r (bank c h) ≡ []
+no-hop zero c h = refl
+no-hop (suc r) c h = refl
 
 no-hop-held : (r : ℕ) (c : Bool) (i j : ℕ) → gateHop r (hold c i j) ≡ []
 no-hop-held zero c i j = refl
@@ -169,7 +171,7 @@ no-hop-write (suc r) i v = refl
 
 left-anew : (t : Stores) → gateRefusal (t .gu) (t .gf) ≡ 0 → GoodGate (gateIn t) → (c : Call) → LeftAnew t c
 unfolding leftAnew seenAnew gateUpdateAnew
-left-anew t p g (bank h) = record { passes = p; good = g; gate-is = sym (ap (runGate (bare (gateIn t))) (no-hop (seenAnew t (bank h) .0) h)) }
+left-anew t p g (bank c h) = record { passes = p; good = g; gate-is = sym (ap (runGate (bare (gateIn t))) (no-hop (seenAnew t (bank c h) .0) c h)) }
 left-anew t p g (gate c h rise drop) =
     let l = leaves-anew (t .gu) (t .gf) c h (length rise) (length drop) p g
     (gateUpdateRefusal (t .bu) (t .bf) (t .gu) (t .gf) (length (h .db)) (length (h .power)) (length rise) (length drop)) in
@@ -193,25 +195,26 @@ n-anew t c l =
 
 map-anew : (t : Stores) (c : Call) → leftAnew t c .map ≡ t .map
 unfolding leftAnew
-map-anew t (bank h) = refl
+map-anew t (bank c h) = refl
 map-anew t (gate c h rise drop) = refl
 map-anew t (hold c rise drop) = refl
 map-anew t (write i v) = refl
 
--- both leave the same bank
-bank-left : (s t : Stores) → Beside s t → (c : Call) → (left s c .bu ≡ leftAnew t c .bu) × (left s c .bf ≡ leftAnew t c .bf)
+-- both leave the same bank, and the same store of R-6 beside it
+bank-left : (s t : Stores) → Beside s t → (c : Call)
+    → (left s c .bu ≡ leftAnew t c .bu) × (left s c .bf ≡ leftAnew t c .bf) × (left s c .wu ≡ leftAnew t c .wu) × (left s c .wf ≡ leftAnew t c .wf)
 unfolding step leftAnew
-bank-left s t w (bank h) = (
-  ap₂ (λ (u : List ℕ) (f : List Float). bankUpdate u f h .1) (w .bu) (w .bf),
-  ap₂ (λ (u : List ℕ) (f : List Float). bankUpdate u f h .2) (w .bu) (w .bf),
-)
-bank-left s t w (gate c h rise drop) = (w .bu, w .bf)
-bank-left s t w (hold c rise drop) = (w .bu, w .bf)
-bank-left s t w (write i v) = (w .bu, w .bf)
+bank-left s t w (bank c h) =
+    let e : updateIf c (s .bu) (s .bf) (s .wu) (s .wf) h ≡ updateIf c (t .bu) (t .bf) (t .wu) (t .wf) h =
+    λ i. updateIf c (w .bu i) (w .bf i) (w .wu i) (w .wf i) h in
+    (ap (λ (a : Answered). a .1) e, ap (λ (a : Answered). a .2) e, ap (λ (a : Answered). a .3) e, ap (λ (a : Answered). a .4) e)
+bank-left s t w (gate c h rise drop) = (w .bu, w .bf, w .wu, w .wf)
+bank-left s t w (hold c rise drop) = (w .bu, w .bf, w .wu, w .wf)
+bank-left s t w (write i v) = (w .bu, w .bf, w .wu, w .wf)
 
 answered : (s : Stores) (c : Call) → answer s c ≡ seen s c .0
 unfolding step seen
-answered s (bank h) = refl
+answered s (bank c h) = refl
 answered s (gate c h rise drop) = refl
 answered s (hold c rise drop) = refl
 answered s (write i v) = refl
@@ -226,6 +229,8 @@ beside-left s t w c =
       true-pairs = true-left s c (w .one) (w .true-pairs);
       bu = b .0;
       bf = b .1;
+      wu = b .2;
+      wf = b .3;
       passes = l .passes;
       good = l .good;
       map-passes = ap₂ mapRefusal (n-anew t c l) (map-anew t c) ∙ w .map-passes;
@@ -240,4 +245,4 @@ pub as-anew : AsAnew
 as-anew k p d cs =
     let v = sound-made k p d in
     all-same cs (made k p) (made k p)
-    (record { one = v; true-pairs = true-made k p d; bu = refl; bf = refl; passes = v .gate-passes; good = v .gate-good; gates = refl; map-passes = v .map-passes })
+    (record { one = v; true-pairs = true-made k p d; bu = refl; bf = refl; wu = refl; wf = refl; passes = v .gate-passes; good = v .gate-good; gates = refl; map-passes = v .map-passes })

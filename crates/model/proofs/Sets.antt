@@ -19,7 +19,9 @@ use Rattle.model.specs.Refusals.{makeRefusal, garbled}
 use Rattle.model.specs.Calls.{bankNew}
 use Rattle.model.specs.Gate.{Gate, distinct, freshGate}
 use Rattle.model.specs.GateCalls.{GateHop, goodLengths, stored, floatsFor, gateMakeRefusal, settingsOf, gateNew}
-use Rattle.model.specs.Demand3.{Call, bank, gate, Stores, answer, left, arguments, bankHop, gateHop, bankHops, gateHops, loud, firstSlowLoud, bankIn, Making, newBank, newGate, made, Made, Enough}
+use Rattle.model.specs.Demand3.{Call, bank, gate, Stores, Lent, answer, left, arguments, bankHop, gateHop, bankHops, gateHops, loud, firstSlowLoud, bankIn, Making, newBank, newGate, newWorst, made, Made, Enough}
+use Rattle.model.specs.Worst.{worstFLen}
+use Rattle.model.specs.WorstCalls.{worstMakeRefusal, worstNew}
 use Rattle.model.specs.Map.{mapLong}
 use Rattle.model.specs.Sets.{gateIn, Sound, StaySound, CanBeMet}
 use Rattle.model.proofs.FreshGates.{bare}
@@ -31,18 +33,30 @@ use Rattle.model.proofs.Made.{sound-made, bank-made, gate-made, can-hav
 pub stay-sound : StaySound
 stay-sound k p d cs = sound-run cs (made k p) (sound-made k p d)
 
--- ---- two channels, one length of 1, levels 0, early absent; each gate update carries the map
+-- ---- two channels, one length of 1, levels 0, early absent; W of 3; each bank update carries the store of R-6, each gate update the map of R-12
 
 two : Making
 two = record { n = 2; gate-n = 2; on = pos 0; off = pos 0; early = pos 65535; lengths = 1 ∷ [] }
 
 -- lent stores of the right lengths
-lent : Stores
-lent = record { bu = replicate (bankLen 2) 0; bf = replicate (bankFLen 2) f0; gu = replicate 30 0; gf = replicate (floatsFor 2 (1 ∷ [])) f0; map = replicate (mapLong 2) 0 }
+lentStores : Stores
+lentStores =
+    record {
+      bu = replicate (bankLen 2) 0;
+      bf = replicate (bankFLen 2) f0;
+      gu = replicate 30 0;
+      gf = replicate (floatsFor 2 (1 ∷ [])) f0;
+      wu = replicate 4 0;
+      wf = replicate (worstFLen 2 3) f0;
+      map = replicate (mapLong 2) 0;
+    }
+
+lent : Lent
+lent = record { stores = lentStores; W = 3 }
 
 two-made : Made two lent
-unfolding two lent newBank newGate bankNew gateNew makeRefusal gateMakeRefusal goodLengths stored distinct
-two-made = record { bank = refl; gate = refl; map = can-have-map two lent refl (length-replicate {A = ℕ} (mapLong 2) 0) }
+unfolding two lentStores lent newBank newGate newWorst bankNew gateNew worstNew makeRefusal gateMakeRefusal worstMakeRefusal goodLengths stored distinct
+two-made = record { bank = refl; gate = refl; worst = refl; map = can-have-map two lent refl (length-replicate {A = ℕ} (mapLong 2) 0) }
 
 -- ---- its hops, all zeros
 
@@ -53,7 +67,7 @@ abbrev gateZeros : GateHop
 gateZeros = record { db = f0 ∷ f0 ∷ []; power = f0 ∷ f0 ∷ [] }
 
 abbrev bankCall : Call
-bankCall = bank zeros
+bankCall = bank true zeros
 
 abbrev gateCall : Call
 gateCall = gate true gateZeros (0 ∷ 0 ∷ []) (0 ∷ 0 ∷ [])

@@ -11,12 +11,12 @@ use Rattle.laws.specs.Lists.{tab, one}
 use Rattle.model.specs.Bank.{FloorBank}
 use Rattle.model.specs.Readings.{riseAt}
 use Rattle.model.specs.Stores.{bankOf}
-use Rattle.model.specs.Calls.{bankUpdate}
 use Rattle.model.specs.Windows.{anyRises}
 use Rattle.model.specs.Gate.{Gate, thresholdOf, gateStep, earlyRise, dropBytes}
 use Rattle.model.specs.GateStores.{gateOf}
 use Rattle.model.specs.GateCalls.{GateHop, gateUpdateRefusal, holdRefusal, gateLeaves}
 use Rattle.model.specs.MapCalls.{mapWrite}
+use Rattle.model.specs.WorstCalls.{updateIf}
 use Rattle.model.specs.Demand3.{Call, bank, gate, hold, write, Stores}
 
 unfoldable pub windowRiseAnew : Gate → FloorBank → ℕ → Bool
@@ -48,16 +48,18 @@ gateHoldAnew bu bf gu gf rise drop =
 
 -- the stores that a call leaves
 unfoldable pub leftAnew : Stores → Call → Stores
-leftAnew s (bank h) = let a = bankUpdate (s .bu) (s .bf) h in record { bu = a .1; bf = a .2; gu = s .gu; gf = s .gf; map = s .map }
+leftAnew s (bank c h) =
+    let a = updateIf c (s .bu) (s .bf) (s .wu) (s .wf) h in
+    record { bu = a .1; bf = a .2; gu = s .gu; gf = s .gf; wu = a .3; wf = a .4; map = s .map }
 leftAnew s (gate c h rise drop) =
     let a = gateUpdateAnew (s .bu) (s .bf) (s .gu) (s .gf) h rise drop in
-    record { bu = s .bu; bf = s .bf; gu = a .1; gf = a .2; map = s .map }
+    record { bu = s .bu; bf = s .bf; gu = a .1; gf = a .2; wu = s .wu; wf = s .wf; map = s .map }
 leftAnew s (hold c rise drop) = s
 leftAnew s (write i v) = s
 
 -- a call's answer, and what its output slices, rise and drop, hold after it
 unfoldable pub seenAnew : Stores → Call → ℕ × List ℕ × List ℕ
-seenAnew s (bank h) = (bankUpdate (s .bu) (s .bf) h .0, [], [])
+seenAnew s (bank c h) = (updateIf c (s .bu) (s .bf) (s .wu) (s .wf) h .0, [], [])
 seenAnew s (gate c h rise drop) =
     let a = gateUpdateAnew (s .bu) (s .bf) (s .gu) (s .gf) h rise drop in
     (a .0, a .3, a .4)

@@ -24,6 +24,9 @@ pub mod DeadBranches
 pub mod Carried
 pub mod SameAnswers
 pub mod Reach
+pub mod Worst
+pub mod WorstCalls
+pub mod GoodWorst
 pub mod Demand3
 pub mod Sets
 pub mod Anew
@@ -32,3 +35,4 @@ pub mod Exports
 pub mod Segments
 pub mod Louder
 pub mod MapSets
+pub mod WorstOfLate

@@ -7,10 +7,10 @@ use Prim.Native.Nat.{ℕ, _<_}
 use lib.ListN.{getD}
 use lib.Ieee.{nan}
 use Rattle.model.specs.Numbers.{f0}
-use Rattle.model.specs.Calls.{bankUpdate}
 use Rattle.model.specs.Gate.{Gate, thresholdOf}
 use Rattle.model.specs.MapCalls.{mapWrite, gateUpdateIf, gateHoldIf}
-use Rattle.model.specs.Demand3.{Call, bank, gate, hold, write, Stores, left, leftBy, Making, made, Made}
+use Rattle.model.specs.WorstCalls.{updateIf}
+use Rattle.model.specs.Demand3.{Call, bank, gate, hold, write, Stores, Lent, left, leftBy, Making, made, Made}
 use Rattle.model.specs.Sets.{gateIn}
 use Rattle.model.specs.Anew.{allSeenAnew}
 
@@ -23,11 +23,11 @@ pub record PairsTrue (g : Gate) : Type 0 where
 
 -- "every operation keeps the pair true, starting from a fresh gate"
 abbrev pub StayTrue : Type 0
-StayTrue = (k : Making) (p : Stores) → Made k p → (cs : List Call) → PairsTrue (gateIn (leftBy (made k p) cs))
+StayTrue = (k : Making) (p : Lent) → Made k p → (cs : List Call) → PairsTrue (gateIn (leftBy (made k p) cs))
 
 -- a call's answer, and what its output slices, rise and drop, hold after it
 unfoldable pub seen : Stores → Call → ℕ × List ℕ × List ℕ
-seen s (bank h) = (bankUpdate (s .bu) (s .bf) h .0, [], [])
+seen s (bank c h) = (updateIf c (s .bu) (s .bf) (s .wu) (s .wf) h .0, [], [])
 seen s (gate c h rise drop) =
     let a = gateUpdateIf c (s .bu) (s .bf) (s .gu) (s .gf) (s .map) h rise drop in
     (a .0, a .4, a .5)
@@ -42,4 +42,4 @@ allSeen s (c ∷ cs) = seen s c ∷ allSeen (left s c) cs
 
 -- whatever the calls, refused or not, a fresh set answers and marks as one that remembers nothing
 abbrev pub AsAnew : Type 0
-AsAnew = (k : Making) (p : Stores) → Made k p → (cs : List Call) → allSeen (made k p) cs ≡ allSeenAnew (made k p) cs
+AsAnew = (k : Making) (p : Lent) → Made k p → (cs : List Call) → allSeen (made k p) cs ≡ allSeenAnew (made k p) cs
