@@ -376,8 +376,8 @@ int main(void)
     early_rise();
     linear_hops();
     hop_log();
-    worst_of_late();
     two_antennas();
+    worst_of_late();
     ticks();
     registers();
     puts(wrong ? "tests/link: failed" : "tests/link: ok");

@@ -155,6 +155,25 @@ fn watch_parts(
     );
 }
 
+// Makes the stores: 0, or the number of the refusal.
+fn make_all(
+    s: Settings,
+    lengths: &[u16],
+    n: u16,
+    bank: &mut [u16],
+    bank_f: &mut [f64],
+    worst: &mut [u16],
+    worst_f: &mut [f64],
+    gate: &mut [u16],
+    gate_f: &mut [f64],
+) -> u16 {
+    let no = make(s, lengths, n, bank, bank_f, gate, gate_f);
+    if no != 0 {
+        return no;
+    }
+    make_worst(s, n, worst, worst_f)
+}
+
 // Makes the stores, and watches the hops.
 fn watch_with(
     fd: i32,
@@ -169,12 +188,7 @@ fn watch_with(
     gate: &mut [u16],
     gate_f: &mut [f64],
 ) {
-    let no = make(s, lengths, n, bank, bank_f, gate, gate_f);
-    if no != 0 {
-        faults::print_refusal(name, 0, 0, no);
-        return;
-    }
-    let no = make_worst(s, n, worst, worst_f);
+    let no = make_all(s, lengths, n, bank, bank_f, worst, worst_f, gate, gate_f);
     if no != 0 {
         faults::print_refusal(name, 0, 0, no);
         return;
