@@ -1,5 +1,5 @@
 -- `gate_linear_map::gate_update_linear_map` meets its contract. Assumes nothing.
-use mathlib.Core.Path.{_≡_, refl, sym, ap, subst, _∙_}
+use mathlib.Core.Path.{_≡_, sym, ap, subst, _∙_}
 use mathlib.Core.List.{List}
 use Prim.Native.Nat.{ℕ, _≤_}
 use native.Mathlib.Omega.{arith}
@@ -94,7 +94,18 @@ take-hop-requires c κs = let d = c .before .before .before .before .before in
     }
 
 set-marks-requires : tie.Need-set-marks-requires
-set-marks-requires c κs = ?
+set-marks-requires c κs = let t = c .before .before .before .before .before .before .before .before .before .before .before in
+    let d = t .before .before .before .before .before .before in
+    let s = start (d .before .before) in
+    let a = asked (d .before) in
+    let g = a .0 .pair .gate .good in
+    let n = n-of (s .args .gate .now) (s .args .gate-f .now) in (
+      omega (arith, a .2, g .low, n),
+      omega (arith, a .2, g .high, n),
+      a .0 .long ∙ ap mapLong (sym (a .2)),
+      t .take-hop .kept .1 .1 .1 .1 .1 .1 .0 ∙ a .3 ∙ sym (a .2),
+      t .take-hop .kept .1 .1 .1 .1 .1 .1 .1 .0 ∙ a .4 ∙ sym (a .2),
+    )
 
 same-length-4 : tie.Need-same-length-4
 same-length-4 c = search needs
@@ -112,7 +123,13 @@ same-length-8 : tie.Need-same-length-8
 same-length-8 c = search needs
 
 returns-2 : tie.Need-returns-2
-returns-2 c = ?
+returns-2 c = let t = c .before .before .before .before .before .before .before .before .before .before .before .before .before .before in
+    let d = t .before .before .before .before .before .before in
+    let s = start (d .before .before) in
+    let k =
+    with-db (gateOf (s .args .gate .now) (s .args .gate-f .now)) (bankOf (s .args .bank .now) (s .args .bank-f .now)) (s .args .power .now) _ _ _ _ _ _ (d .hop-db .ensures) (t .take-hop .ensures) in
+    updated (s .args .bank .now) (s .args .bank-f .now) (s .args .gate .now) (s .args .gate-f .now) (s .args .map .now) (linearGateHop (s .args .power .now)) (s .args .rise .now) (s .args .drop .now) (length (s .args .power .now)) _ _ _ _ _ (none (d .before)) (asked (d .before) .2)
+    (k .holds) (k .marked) (c .before .before .set-marks .ensures)
 
 pub gate-update-linear-map-spec : {M : Type 1} → statement M
 gate-update-linear-map-spec =
