@@ -9,6 +9,7 @@ ghost use mathlib.Core.Bool.{false};
 ghost use Rattle.model.specs.Bank.{hop};
 ghost use Rattle.model.specs.Calls.{bankLenFor, bankFLenFor, bankNew, bankUpdate};
 ghost use Rattle.model.specs.Readings.{rawReading, effectiveReading, riseReading, referenceReading, floorsReading};
+ghost use Rattle.roles.specs.Rights.{bank-update, channel-floor-db, asRole};
 ghost use Rattle.answers.specs.Answers.{answered, floorsAnswered, ringAnswered};
 
 #[no_mangle]
@@ -34,13 +35,17 @@ pub extern "C" fn wolfcloak_bank_new(bank: &mut [u16], bank_f: &mut [f64], n: us
 
 #[no_mangle]
 pub extern "C" fn wolfcloak_bank_update(
+    role: u16,
     bank: &mut [u16],
     bank_f: &mut [f64],
     power_db: &[f64],
     power: &[f32],
 ) -> u16
-    ensures { λ r. ⌜ (r, now (bank .exit), now («bank_f» .exit)) ≡ bankUpdate (now (bank .entry)) (now («bank_f» .entry)) (hop false (now («power_db» .entry)) (now (power .entry))) ⌝ }
+    ensures { λ r. ⌜ (r, now (bank .exit), now («bank_f» .exit)) ≡ asRole bank-update role (λ r. (r, now (bank .entry), now («bank_f» .entry))) (bankUpdate (now (bank .entry)) (now («bank_f» .entry)) (hop false (now («power_db» .entry)) (now (power .entry)))) ⌝ }
 {
+    if !roles::may(roles::TECHNICIAN, role) {
+        return roles::STOPPED;
+    }
     bank::bank_update(bank, bank_f, power_db, power)
 }
 
