@@ -18,6 +18,7 @@ mod louder;
 mod numbers;
 mod pairs;
 mod plain_log;
+mod roles;
 mod rules;
 mod rungs;
 mod runs;
@@ -35,7 +36,7 @@ use tally::Tally;
 
 const SIZES: [usize; 13] = [1, 2, 3, 4, 5, 6, 31, 32, 33, 64, 65, 511, 512];
 
-/// Job i: the making of banks and gates, the ladder, the hop logs and the dispatcher, two histories, two lists of which one is louder,
+/// Job i: the making of banks and gates, the ladder, the hop logs, the roles and the dispatcher, two histories, two lists of which one is louder,
 /// arbitrary stores of some size, or a run of some size and plan.
 fn job(i: usize, seed: u64, alone: &mut Alone) -> Option<Tally> {
     let mut t = Tally::default();
@@ -50,6 +51,7 @@ fn job(i: usize, seed: u64, alone: &mut Alone) -> Option<Tally> {
         rungs::each_rung(&mut t);
         rungs::any_s(&mut t, &mut rng);
         logs::any_logs(&mut t, &mut rng);
+        roles::each_role(&mut t, &mut rng);
         segments::all_ticks(&mut t);
         segments::fair_runs(&mut t, &mut rng);
         louder::no_more(&mut t);

@@ -24,6 +24,7 @@ pub data Exported : Type 0 where
   spectral-reference : Exported
   floors : Exported
   ring : Exported
+  explain : Exported
   gate-new : Exported
   gate-update : Exported
   gate-hold : Exported
@@ -33,6 +34,7 @@ pub data Exported : Type 0 where
   log-write : Exported
   log-channels : Exported
   log-read : Exported
+  log-combine : Exported
   worst-new : Exported
   bank-update-worst : Exported
   worst-floor : Exported
@@ -43,6 +45,10 @@ pub data Exported : Type 0 where
   map-read : Exported
   map-write : Exported
   map-wire : Exported
+  bank-update-linear : Exported
+  gate-update-linear : Exported
+  bank-update-linear-worst : Exported
+  gate-update-linear-map : Exported
 
 -- the table of rights: for each call the least role that has the right
 abbrev pub least : Exported → ℕ
@@ -58,6 +64,7 @@ least ema-rise = keeper
 least worst-floor = keeper
 least map-read = keeper
 least map-wire = keeper
+least explain = keeper
 -- "The leader may also write masks, clear flags and remake a gate with new levels"
 least map-write = leader
 least gate-remake = leader
@@ -71,12 +78,17 @@ least gate-hold = technician
 least log-write = technician
 least log-channels = technician
 least log-read = technician
+least log-combine = technician
 least worst-new = technician
 least bank-update-worst = technician
 least dispatch = technician
 least map-new = technician
 least gate-update-map = technician
 least gate-hold-map = technician
+least bank-update-linear = technician
+least gate-update-linear = technician
+least bank-update-linear-worst = technician
+least gate-update-linear-map = technician
 
 -- a role has the right to a call: not one above 2
 abbrev pub may : Exported → ℕ → Bool
