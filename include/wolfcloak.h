@@ -40,13 +40,12 @@ extern "C" {
 #define WOLFCLOAK_REFUSED_CUT 10       /* a log ends inside its header or a hop; a position below 2 or past the log */
 #define WOLFCLOAK_REFUSED_DAMAGED 11   /* a log has a set bit past n, or a pair that did not change */
 #define WOLFCLOAK_REFUSED_SEGMENTS 14  /* a tick: count outside 1..8, a bit set past count, or a last served not below count */
-
+#define WOLFCLOAK_REFUSED_ADDRESS 15   /* a register's address past the map */
 #define WOLFCLOAK_REFUSED_RIGHT 16     /* a role above 2, or one that lacks the right to this call */
 
 /* Numbers of calls that are still to come; none of those below answers them. */
 #define WOLFCLOAK_REFUSED_SPAN 12      /* a worst floor of late over fewer than 1 or more than 600 slow hops */
 #define WOLFCLOAK_REFUSED_UNLIKE 13    /* two logs that differ in n or in their number of hops */
-#define WOLFCLOAK_REFUSED_ADDRESS 15   /* a register's address past the map */
 
 /* Answers that are no refusals, with which nothing is written either. */
 #define WOLFCLOAK_END 100              /* the log has no further hop */
@@ -208,6 +207,57 @@ uint16_t wolfcloak_smoothed_db(uint16_t role, const uint16_t *gate, size_t gate_
 uint16_t wolfcloak_ema_rise(uint16_t role, const uint16_t *bank, size_t bank_len, const double *bank_f, size_t bank_f_len,
                             const uint16_t *gate, size_t gate_len, const double *gate_f, size_t gate_f_len,
                             size_t k, double *value);
+
+/* ---- registers for the main processor: flags of rises and drops in bytes, and one wire for attention ---- */
+
+/*
+ * A map beside a gate keeps the marks of its updates and holds until they are cleared. It is one slice of bytes; with
+ * w = (n + 7) / 8 for the gate's n, a register's address is its place in that slice:
+ *
+ *   address        register          read                        written
+ *   0 .. w-1       rise flags        1: the channel rose         the bits written as 1 are cleared, the others stay
+ *   w .. 2w-1      drop flags        1: the channel dropped      the same
+ *   2w .. 3w-1     mask              as it was written           replaced
+ *   3w and more    none              refused with 15             refused with 15
+ *
+ * Channel k is bit k % 8, the lowest being bit 0, of byte k / 8 of each group; bits past n are 0 and stay 0 whatever is written.
+ * A flag is set by each accepted update or hold that carries the map and marks its channel, and cleared by a write alone; so what was
+ * read, written back, clears just that, and a mark that comes between the two is kept.
+ *
+ * The calls below are lent the map with its gate, which they only read: they refuse with 2 or 9 for the gate's stores, then with 2 for a map
+ * of another length, then (all but making) with 9 for one with a bit past n.
+ */
+
+/* How many bytes the map of a gate of n channels takes: 3 * ((n + 7) / 8), or 0 where n is outside 1..512. */
+size_t wolfcloak_map_len(size_t n);
+
+/* Makes a fresh map for the gate, all 0, whatever it held. */
+uint16_t wolfcloak_map_new(uint16_t role, const uint16_t *gate, size_t gate_len, const double *gate_f, size_t gate_f_len,
+                           uint8_t *map, size_t map_len);
+
+/*
+ * As wolfcloak_gate_update and wolfcloak_gate_hold, with the map: besides, the flag of each mark that is 1 is set, and no other bit changes.
+ * They refuse with 2 or 9 for the bank's stores, then for the gate's, then for the map, then 8, then 5.
+ */
+uint16_t wolfcloak_gate_update_map(uint16_t role, const uint16_t *bank, size_t bank_len, const double *bank_f, size_t bank_f_len,
+                                   uint16_t *gate, size_t gate_len, double *gate_f, size_t gate_f_len,
+                                   uint8_t *map, size_t map_len,
+                                   const double *power_db, size_t power_db_len, const float *power, size_t power_len,
+                                   uint8_t *rise, size_t rise_len, uint8_t *drop, size_t drop_len);
+uint16_t wolfcloak_gate_hold_map(uint16_t role, const uint16_t *bank, size_t bank_len, const double *bank_f, size_t bank_f_len,
+                                 const uint16_t *gate, size_t gate_len, double *gate_f, size_t gate_f_len,
+                                 uint8_t *map, size_t map_len,
+                                 uint8_t *rise, size_t rise_len, uint8_t *drop, size_t drop_len);
+
+/* The register at an address, read to *value or written; after the stores, 15 for an address of 3w or more. */
+uint16_t wolfcloak_map_read(uint16_t role, const uint16_t *gate, size_t gate_len, const double *gate_f, size_t gate_f_len,
+                            const uint8_t *map, size_t map_len, size_t address, uint8_t *value);
+uint16_t wolfcloak_map_write(uint16_t role, const uint16_t *gate, size_t gate_len, const double *gate_f, size_t gate_f_len,
+                             uint8_t *map, size_t map_len, size_t address, uint8_t value);
+
+/* The wire: *up becomes 1 where some flag, rise or drop, and its channel's mask bit are both 1, else 0. */
+uint16_t wolfcloak_map_wire(uint16_t role, const uint16_t *gate, size_t gate_len, const double *gate_f, size_t gate_f_len,
+                            const uint8_t *map, size_t map_len, uint8_t *up);
 
 /* ---- the hop log: what a set heard, hop by hop, only what changed ---- */
 

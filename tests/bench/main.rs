@@ -7,6 +7,8 @@ mod floor;
 #[allow(dead_code)]
 #[path = "../compare/layout.rs"]
 mod layout;
+#[path = "../compare/map_rows.rs"]
+mod map_rows;
 #[allow(dead_code)]
 #[path = "../compare/log_rows.rs"]
 mod log_rows;
@@ -16,6 +18,7 @@ mod logs;
 mod numbers;
 #[path = "../compare/plain_log.rs"]
 mod plain_log;
+mod registers;
 #[path = "../compare/wolfcloak.rs"]
 mod wolfcloak;
 
@@ -190,6 +193,8 @@ fn main() {
     silence_rows(512, 600);
     gate_rows(32, 12);
     gate_rows(512, 6);
+    registers::rows(32, 6);
+    registers::rows(512, 3);
     for n in [32, 512] {
         for kept in [0, 90, 100] {
             logs::rows(n, kept);

@@ -15,9 +15,11 @@ mod layout;
 mod log_rows;
 mod logs;
 mod louder;
+mod map_rows;
 mod numbers;
 mod pairs;
 mod plain_log;
+mod registers;
 mod roles;
 mod rules;
 mod rungs;
@@ -36,8 +38,8 @@ use tally::Tally;
 
 const SIZES: [usize; 13] = [1, 2, 3, 4, 5, 6, 31, 32, 33, 64, 65, 511, 512];
 
-/// Job i: the making of banks and gates, the ladder, the hop logs, the roles and the dispatcher, two histories, two lists of which one is louder,
-/// arbitrary stores of some size, or a run of some size and plan.
+/// Job i: the making of banks and gates, the ladder, the hop logs, the roles, the dispatcher and the registers, two histories, two lists of which
+/// one is louder, arbitrary stores of some size, or a run of some size and plan.
 fn job(i: usize, seed: u64, alone: &mut Alone) -> Option<Tally> {
     let mut t = Tally::default();
     let mut rng = Rng(seed ^ (i as u64) << 32);
@@ -55,6 +57,11 @@ fn job(i: usize, seed: u64, alone: &mut Alone) -> Option<Tally> {
         segments::all_ticks(&mut t);
         segments::fair_runs(&mut t, &mut rng);
         louder::no_more(&mut t);
+        for n in registers::SIZES {
+            registers::every_address(&mut t, n, &mut rng);
+            (0..3000 / (n + 50)).for_each(|_| registers::any_list(&mut t, n, &mut rng));
+            registers::all_faults(&mut t, n, &mut rng);
+        }
     } else if i <= histories {
         history::any_histories(&mut t, &SETTINGS[i - 1], &mut rng);
     } else if i <= lists {

@@ -220,6 +220,59 @@ static void hop_log(void)
     expect("the position of a refusal", position, 2);
 }
 
+/* Nine channels, six registers: an update that carries the map, the flags, the masks, the wire; then each refusal. */
+static void registers(void)
+{
+    static const uint16_t lengths[1] = {1};
+    static const double db[9] = {0, 0, 0, 0, 0, 0, 0, 0, 0};
+    static const float power[9] = {0, 0, 0, 0, 0, 0, 0, 0, 0};
+    size_t u = wolfcloak_bank_len(9), f = wolfcloak_bank_f_len(9), g = wolfcloak_gate_f_len(9, lengths, 1);
+    uint16_t *nine = malloc(u * sizeof *nine), gate[WOLFCLOAK_GATE_LEN];
+    double *nine_f = malloc(f * sizeof *nine_f), *gate_f = malloc(g * sizeof *gate_f);
+    uint8_t map[7], rise[9], drop[9], value = 7;
+
+    if (!nine || !nine_f || !gate_f)
+        exit(1);
+    expect("map_len", wolfcloak_map_len(9), 6);
+    expect("map_len of none", wolfcloak_map_len(0), 0);
+    expect("map_len of 513", wolfcloak_map_len(513), 0);
+    expect("bank_new", wolfcloak_bank_new(me, nine, u, nine_f, f, 9), WOLFCLOAK_OK);
+    expect("gate_new", wolfcloak_gate_new(me, gate, 30, gate_f, g, 9, 0, 800, 0, lengths, 1), WOLFCLOAK_OK);
+    expect("a map too long", wolfcloak_map_new(me, gate, 30, gate_f, g, map, 7), WOLFCLOAK_REFUSED_STORE_SIZE);
+    expect("map_new", wolfcloak_map_new(me, gate, 30, gate_f, g, map, 6), WOLFCLOAK_OK);
+    expect("bank_update", wolfcloak_bank_update(me, nine, u, nine_f, f, db, 9, power, 9), WOLFCLOAK_OK);
+    expect("gate_update_map", wolfcloak_gate_update_map(me, nine, u, nine_f, f, gate, 30, gate_f, g, map, 6, db, 9, power, 9,
+                                                        rise, 9, drop, 9), WOLFCLOAK_OK);
+    expect("gate_hold_map", wolfcloak_gate_hold_map(me, nine, u, nine_f, f, gate, 30, gate_f, g, map, 6, rise, 9, drop, 9), WOLFCLOAK_OK);
+    for (size_t k = 0; k < 9; k++)
+        expect("rise and drop flags", (map[k / 8] >> k % 8 & 1) + 2 * (map[2 + k / 8] >> k % 8 & 1), rise[k] + 2 * drop[k]);
+    expect("some flag", map[0] + map[2] > 0, 1);
+    expect("map_wire", wolfcloak_map_wire(me, gate, 30, gate_f, g, map, 6, &value), WOLFCLOAK_OK);
+    expect("the wire without a mask", value, 0);
+    expect("map_write", wolfcloak_map_write(me, gate, 30, gate_f, g, map, 6, 4, 255), WOLFCLOAK_OK);
+    expect("map_write", wolfcloak_map_write(me, gate, 30, gate_f, g, map, 6, 5, 255), WOLFCLOAK_OK);
+    expect("map_read", wolfcloak_map_read(me, gate, 30, gate_f, g, map, 6, 5, &value), WOLFCLOAK_OK);
+    expect("a mask byte, no bit past n", value, 1);
+    expect("map_wire", wolfcloak_map_wire(me, gate, 30, gate_f, g, map, 6, &value), WOLFCLOAK_OK);
+    expect("the wire", value, 1);
+    for (size_t a = 0; a < 4; a++) {
+        expect("map_write", wolfcloak_map_write(me, gate, 30, gate_f, g, map, 6, a, 254), WOLFCLOAK_OK);
+        expect("a flag byte, but for its lowest bit", map[a] & 254, 0);
+        expect("map_write", wolfcloak_map_write(me, gate, 30, gate_f, g, map, 6, a, 1), WOLFCLOAK_OK);
+        expect("a flag byte", map[a], 0);
+    }
+    expect("map_wire", wolfcloak_map_wire(me, gate, 30, gate_f, g, map, 6, &value), WOLFCLOAK_OK);
+    expect("the wire, all cleared", value, 0);
+    value = 7;
+    expect("address 6", wolfcloak_map_read(me, gate, 30, gate_f, g, map, 6, 6, &value), WOLFCLOAK_REFUSED_ADDRESS);
+    expect("what a refusal leaves", value, 7);
+    map[5] = 2;
+    expect("a bit past n", wolfcloak_map_write(me, gate, 30, gate_f, g, map, 6, 6, 0), WOLFCLOAK_REFUSED_UNSOUND);
+    free(nine);
+    free(nine_f);
+    free(gate_f);
+}
+
 /* A role that lacks the right gets 16 before what else is due, and nothing is written. */
 static void roles(void)
 {
@@ -230,7 +283,7 @@ static void roles(void)
 
     expect("a keeper's reading", wolfcloak_channel_floor_db(WOLFCLOAK_KEEPER, bank, TWO, bank_f, 10, 1, &value), WOLFCLOAK_OK);
     value = 7;
-    expect("a reading in role 3", wolfcloak_channel_floor_db(3, bank, TWO, bank_f, 10, 2, &value), WOLFCLOAK_REFUSED_RIGHT);
+    expect("a reading in role 3", wolfcloak_channel_floor_db(me, 3, bank, TWO, bank_f, 10, 2, &value), WOLFCLOAK_REFUSED_RIGHT);
     expect("its value", value, 7);
     expect("a keeper's hold, with a store that is no gate",
            wolfcloak_gate_hold(WOLFCLOAK_KEEPER, bank, TWO, bank_f, 10, gate, 30, &value, 1, rise, 2, drop, 2),
@@ -253,6 +306,7 @@ int main(void)
     early_rise();
     hop_log();
     ticks();
+    registers();
     roles();
     puts(wrong ? "tests/link: failed" : "tests/link: ok");
     return wrong != 0;

@@ -38,7 +38,8 @@ pub fn pair_refusal(bank: &[u16], bank_f: &[f64], gate: &[u16], gate_f: &[f64]) 
     8
 }
 
-fn two_long(n: usize, rise: usize, drop: usize) -> u16
+// The lengths that a hold asks for, and an update.
+pub fn two_long(n: usize, rise: usize, drop: usize) -> u16
     ensures { λ r. ⌜ r ≡ twoLong n rise drop ⌝ }
 {
     if rise != n {
@@ -50,7 +51,7 @@ fn two_long(n: usize, rise: usize, drop: usize) -> u16
     0
 }
 
-fn four_long(n: usize, power_db: usize, power: usize, rise: usize, drop: usize) -> u16
+pub fn four_long(n: usize, power_db: usize, power: usize, rise: usize, drop: usize) -> u16
     ensures { λ r. ⌜ r ≡ fourLong n «power_db» power rise drop ⌝ }
 {
     if power_db != n {

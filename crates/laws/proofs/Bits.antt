@@ -31,10 +31,10 @@ one-lt true = omega arith
 one-lt false = omega arith
 
 -- the lowest digit and the rest of them, of a number put together
-low-of : (x r d : ℕ) → x ≡ r * 2 + d → d < 2 → x % 2 ≡ d
+pub low-of : (x r d : ℕ) → x ≡ r * 2 + d → d < 2 → x % 2 ≡ d
 low-of x r d e h = omega arith
 
-rest-of : (x r d : ℕ) → x ≡ r * 2 + d → d < 2 → x / 2 ≡ r
+pub rest-of : (x r d : ℕ) → x ≡ r * 2 + d → d < 2 → x / 2 ≡ r
 rest-of x r d e h = omega arith
 
 -- ---- a number and its bits

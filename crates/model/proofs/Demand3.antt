@@ -13,7 +13,7 @@ use Rattle.model.specs.Bank.{FloorBank, freshBank}
 use Rattle.model.specs.Windows.{PowerLooks, stepLook}
 use Rattle.model.specs.Gate.{Gate, among, freshGate, sampleOf, gateStep}
 use Rattle.model.specs.GateCalls.{GateHop, absent, settingsOf}
-use Rattle.model.specs.Demand3.{Call, Arguments, bank, gate, hold, Stores, arguments, answer, leftBy, bankHops, gateHops, bankUpdates, gateUpdates, risesOf, bankIn, Making, made, Made, SameFloors, Enough, Same, Demand3}
+use Rattle.model.specs.Demand3.{Call, Arguments, bank, gate, hold, write, Stores, arguments, answer, leftBy, bankHops, gateHops, bankUpdates, gateUpdates, risesOf, bankIn, Making, made, Made, SameFloors, Enough, Same, Demand3}
 use Rattle.model.specs.Sets.{gateIn, Sound}
 use Rattle.model.specs.Anew.{riseBytesAnew}
 use Rattle.model.specs.Remembered.{PairsTrue}
@@ -31,7 +31,7 @@ module _ (k : Making) (p : Stores) (d : Made k p) where
   bank-heard = bank-hears k p (d .bank)
 
   gate-heard : (cs : List Call) → bare (gateIn (leftBy (made k p) cs)) ≡ runGate (bare (freshGate (settings k))) (gateHops (made k p) cs)
-  gate-heard cs = gate-run cs (made k p) (sound-made k p d) ∙ ap (λ (x : Gate). runGate (bare x) (gateHops (made k p) cs)) (gate-made k p d)
+  gate-heard cs = gate-run cs (made k p) (sound-made k p d) ∙ ap (λ (x : Gate). runGate (bare x) (gateHops (made k p) cs)) (gate-made k p (d .gate))
 
   n-heard : (cs : List Call) → bankIn (leftBy (made k p) cs) .n ≡ k .n
   n-heard cs = ap (λ (b : FloorBank). b .n) (bank-heard cs) ∙ n-run (bankHops (made k p) cs) (freshBank (k .n)) ∙ (unfold freshBank in refl)
@@ -51,7 +51,7 @@ module _ (k : Making) (p : Stores) (d : Made k p) where
 
   -- R-3: the pairs of two sets may differ, but they are true
   true-heard : (cs : List Call) → PairsTrue (gateIn (leftBy (made k p) cs))
-  true-heard cs = true-run cs (made k p) (sound-made k p d) (subst PairsTrue (sym (gate-made k p d)) (true-fresh (settings k)))
+  true-heard cs = true-run cs (made k p) (sound-made k p d) (subst PairsTrue (sym (gate-made k p (d .gate))) (true-fresh (settings k)))
 
 make-join : (a b c : Gate) → SameMake (bare a) (bare c) → SameMake (bare b) (bare c) → SameMake a b
 make-join a b c x y = record { n = x .n ∙ sym (y .n); on = x .on ∙ sym (y .on); early = x .early ∙ sym (y .early) }
@@ -78,18 +78,19 @@ stepped-same s t r db power =
 judged-same : (s t : Stores) → Ready s t → (a : Arguments) → judged s a ≡ judged t a
 unfolding judged
 judged-same s t r (bank h) = refl
-judged-same s t r (gate h i j) =
+judged-same s t r (gate c h i j) =
     update-anew (gateIn s) (bankIn s) (h .db) (h .power) (r .one)
     ∙ stepped-same s t r (h .db) (h .power)
     ∙ sym (update-anew (gateIn t) (bankIn t) (h .db) (h .power) (r .other))
-judged-same s t r (hold i j) =
+judged-same s t r (hold c i j) =
     hold-anew (gateIn s) (bankIn s) (r .one)
     ∙ rises-same (gateIn s) (gateIn t) (bankIn s) (bankIn t) (r .make) (r .early) (r .looks) (r .started) (r .rise)
     ∙ sym (hold-anew (gateIn t) (bankIn t) (r .other))
+judged-same s t r (write i v) = refl
 
 next-rises : (s t : Stores) → Twins s t → Ready s t → (c d : Call) → arguments c ≡ arguments d → answer s c ≡ 0 → risesOf s c ≡ risesOf t d
 next-rises s t w r c d e z =
-    rises-are s c z ∙ judged-same s t r (arguments c) ∙ ap (judged t) e ∙ sym (rises-are t d (sym (same-answer s t w c d e) ∙ z))
+    rises-are s (w .one) c z ∙ judged-same s t r (arguments c) ∙ ap (judged t) e ∙ sym (rises-are t (w .other) d (sym (same-answer s t w c d e) ∙ z))
 
 -- ---- demand 3
 
@@ -173,7 +174,7 @@ module _ (k : Making) (p q : Stores) (mp : Made k p) (mq : Made k q) (xs ys : Li
           early = make-s .early ∙ (unfold freshGate settingsOf in stored-absent (k .early) a);
           looks =
               ap (λ (x : Gate). x .looks) gate-s
-              ∙ looks-forget (settings k) (gateHops (made k p) xs) (gateHops (made k q) ys) (gateHops s fs) (unfold settingsOf in lengths-good k p mp)
+              ∙ looks-forget (settings k) (gateHops (made k p) xs) (gateHops (made k q) ys) (gateHops s fs) (unfold settingsOf in lengths-good k p (mp .gate))
               (unfold settingsOf in eg) (omega (arith, h .gate-updates))
               ∙ sym (ap (λ (x : Gate). x .looks) gate-t);
           started =

@@ -20,6 +20,12 @@ pub mod GateStores
 pub mod GoodGates
 pub mod FreshGates
 pub mod Pairs
+pub mod MapSound
+pub mod MapRefusals
+pub mod MapFlags
+pub mod MapReach
+pub mod MapWorked
+pub mod MapCarried
 pub mod Quartiles
 pub mod SettledFloors
 pub mod Windows
@@ -34,3 +40,4 @@ pub mod BinOrder
 pub mod LouderRings
 pub mod Louder
 pub mod LouderCases
+pub mod MapSets

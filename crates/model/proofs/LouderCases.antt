@@ -33,7 +33,7 @@ single : Making
 single = record { n = 1; gate-n = 0; on = pos 0; off = pos 0; early = pos 0; lengths = [] }
 
 lent : Stores
-lent = record { bu = replicate (bankLen 1) 0; bf = replicate (bankFLen 1) f0; gu = []; gf = [] }
+lent = record { bu = replicate (bankLen 1) 0; bf = replicate (bankFLen 1) f0; gu = []; gf = []; map = [] }
 
 single-fresh : newBank single lent .0 ≡ 0
 unfolding single lent newBank bankNew makeRefusal

@@ -4,7 +4,7 @@ use mathlib.Core.List.{List, [], _∷_, _++_}
 use mathlib.Core.Bool.{true, false}
 use Prim.Native.Nat.{ℕ, zero, suc, _≤_}
 use native.Mathlib.Omega.{arith}
-use lib.ListN.{length, replicate}
+use lib.ListN.{length, replicate, length-replicate}
 use lib.Dec.{eqb}
 use lib.IntN.{pos}
 use lib.Ieee.{add, sub, sum, neg, round, odd, units, size, span, climb, ofFields, mul, lt, le, isNan, ofBits}
@@ -20,28 +20,29 @@ use Rattle.model.specs.Calls.{bankNew}
 use Rattle.model.specs.Gate.{Gate, distinct, freshGate}
 use Rattle.model.specs.GateCalls.{GateHop, goodLengths, stored, floatsFor, gateMakeRefusal, settingsOf, gateNew}
 use Rattle.model.specs.Demand3.{Call, bank, gate, Stores, answer, left, arguments, bankHop, gateHop, bankHops, gateHops, loud, firstSlowLoud, bankIn, Making, newBank, newGate, made, Made, Enough}
+use Rattle.model.specs.Map.{mapLong}
 use Rattle.model.specs.Sets.{gateIn, Sound, StaySound, CanBeMet}
 use Rattle.model.proofs.FreshGates.{bare}
 use Rattle.model.proofs.SettledFloors.{n-run}
 use Rattle.model.proofs.Rises.{make-run}
 use Rattle.model.proofs.Calls.{left-is, sound-left, bare-left, sound-run, refuse, answer-is}
-use Rattle.model.proofs.Made.{sound-made, bank-made, gate-made}
+use Rattle.model.proofs.Made.{sound-made, bank-made, gate-made, can-have-map}
 
 pub stay-sound : StaySound
 stay-sound k p d cs = sound-run cs (made k p) (sound-made k p d)
 
--- ---- two channels, one length of 1, levels 0, early absent
+-- ---- two channels, one length of 1, levels 0, early absent; each gate update carries the map
 
 two : Making
 two = record { n = 2; gate-n = 2; on = pos 0; off = pos 0; early = pos 65535; lengths = 1 ∷ [] }
 
 -- lent stores of the right lengths
 lent : Stores
-lent = record { bu = replicate (bankLen 2) 0; bf = replicate (bankFLen 2) f0; gu = replicate 30 0; gf = replicate (floatsFor 2 (1 ∷ [])) f0 }
+lent = record { bu = replicate (bankLen 2) 0; bf = replicate (bankFLen 2) f0; gu = replicate 30 0; gf = replicate (floatsFor 2 (1 ∷ [])) f0; map = replicate (mapLong 2) 0 }
 
 two-made : Made two lent
 unfolding two lent newBank newGate bankNew gateNew makeRefusal gateMakeRefusal goodLengths stored distinct
-two-made = record { bank = refl; gate = refl }
+two-made = record { bank = refl; gate = refl; map = can-have-map two lent refl (length-replicate {A = ℕ} (mapLong 2) 0) }
 
 -- ---- its hops, all zeros
 
@@ -55,7 +56,7 @@ abbrev bankCall : Call
 bankCall = bank zeros
 
 abbrev gateCall : Call
-gateCall = gate gateZeros (0 ∷ 0 ∷ []) (0 ∷ 0 ∷ [])
+gateCall = gate true gateZeros (0 ∷ 0 ∷ []) (0 ∷ 0 ∷ [])
 
 abbrev calls : ℕ → ℕ → List Call
 calls i j = replicate i bankCall ++ replicate j gateCall
@@ -115,7 +116,7 @@ two-fresh =
     record {
       sound = sound-made two lent two-made;
       n = ap (λ (b : FloorBank). b .n) (bank-made two lent (two-made .bank)) ∙ (unfold freshBank two in refl);
-      gate-n = ap (λ (g : Gate). g .n) (gate-made two lent two-made) ∙ (unfold freshGate settingsOf two in refl);
+      gate-n = ap (λ (g : Gate). g .n) (gate-made two lent (two-made .gate)) ∙ (unfold freshGate settingsOf two in refl);
     }
 
 enough : (i j : ℕ) → settlingHops ≤ suc i → 1500 ≤ j → Enough 2 0 (made two lent) (calls (suc i) j)

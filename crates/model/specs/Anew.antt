@@ -1,5 +1,6 @@
 -- The gate as it was before R-3: it remembers nothing, and works the ladder out at each judgement. The pairs in its stores are neither read
--- nor written. Only the theorem `AsAnew` (Remembered) speaks of it.
+-- nor written. It carries no map (R-12): each call is to it as one without, and the map beside it stays as it was made. Only the theorem
+-- `AsAnew` (Remembered) speaks of it.
 use mathlib.Core.Bool.{Bool, not, _&&_, _||_}
 use mathlib.Core.List.{List, [], _∷_}
 use Prim.Native.Nat.{ℕ, zero, suc}
@@ -15,7 +16,8 @@ use Rattle.model.specs.Windows.{anyRises}
 use Rattle.model.specs.Gate.{Gate, thresholdOf, gateStep, earlyRise, dropBytes}
 use Rattle.model.specs.GateStores.{gateOf}
 use Rattle.model.specs.GateCalls.{GateHop, gateUpdateRefusal, holdRefusal, gateLeaves}
-use Rattle.model.specs.Demand3.{Call, bank, gate, hold, Stores}
+use Rattle.model.specs.MapCalls.{mapWrite}
+use Rattle.model.specs.Demand3.{Call, bank, gate, hold, write, Stores}
 
 unfoldable pub windowRiseAnew : Gate → FloorBank → ℕ → Bool
 windowRiseAnew g b k = anyRises (g .n) (thresholdOf g (riseAt b k)) k (g .looks)
@@ -46,19 +48,21 @@ gateHoldAnew bu bf gu gf rise drop =
 
 -- the stores that a call leaves
 unfoldable pub leftAnew : Stores → Call → Stores
-leftAnew s (bank h) = let a = bankUpdate (s .bu) (s .bf) h in record { bu = a .1; bf = a .2; gu = s .gu; gf = s .gf }
-leftAnew s (gate h rise drop) =
+leftAnew s (bank h) = let a = bankUpdate (s .bu) (s .bf) h in record { bu = a .1; bf = a .2; gu = s .gu; gf = s .gf; map = s .map }
+leftAnew s (gate c h rise drop) =
     let a = gateUpdateAnew (s .bu) (s .bf) (s .gu) (s .gf) h rise drop in
-    record { bu = s .bu; bf = s .bf; gu = a .1; gf = a .2 }
-leftAnew s (hold rise drop) = s
+    record { bu = s .bu; bf = s .bf; gu = a .1; gf = a .2; map = s .map }
+leftAnew s (hold c rise drop) = s
+leftAnew s (write i v) = s
 
 -- a call's answer, and what its output slices, rise and drop, hold after it
 unfoldable pub seenAnew : Stores → Call → ℕ × List ℕ × List ℕ
 seenAnew s (bank h) = (bankUpdate (s .bu) (s .bf) h .0, [], [])
-seenAnew s (gate h rise drop) =
+seenAnew s (gate c h rise drop) =
     let a = gateUpdateAnew (s .bu) (s .bf) (s .gu) (s .gf) h rise drop in
     (a .0, a .3, a .4)
-seenAnew s (hold rise drop) = gateHoldAnew (s .bu) (s .bf) (s .gu) (s .gf) rise drop
+seenAnew s (hold c rise drop) = gateHoldAnew (s .bu) (s .bf) (s .gu) (s .gf) rise drop
+seenAnew s (write i v) = (mapWrite (s .gu) (s .gf) (s .map) i v .0, [], [])
 
 abbrev pub allSeenAnew : Stores → List Call → List (ℕ × List ℕ × List ℕ)
 allSeenAnew s [] = []

@@ -15,33 +15,40 @@ use Rattle.model.specs.Readings.{rawAt, effectiveAt, riseAt}
 use Rattle.model.specs.Stores.{bankOf}
 use Rattle.model.specs.Calls.{bankNew, bankUpdate}
 use Rattle.model.specs.Gate.{among}
-use Rattle.model.specs.GateCalls.{GateHop, absent, gateNew, gateUpdate, gateHold}
+use Rattle.model.specs.GateCalls.{GateHop, absent, gateNew}
+use Rattle.model.specs.MapCalls.{mapNew, mapWrite, gateUpdateIf, gateHoldIf}
 
 -- ---- calls
 
 -- "bank updates, gate updates and holds, refused ones included": slices of any lengths. The two lists of a gate update and of a hold are what
--- its output slices, rise and drop, held before
+-- its output slices, rise and drop, held before. R-12: they carry the map (true) or don't; and writes to the map, of a value at an address
 pub data Call : Type 0 where
   bank : Hop → Call
-  gate : GateHop → List ℕ → List ℕ → Call
-  hold : List ℕ → List ℕ → Call
+  gate : Bool → GateHop → List ℕ → List ℕ → Call
+  hold : Bool → List ℕ → List ℕ → Call
+  write : ℕ → ℕ → Call
 
--- the lent stores: the bank's and the gate's, with the gate's pairs (R-3), which gate updates and holds change
+-- the lent stores: the bank's and the gate's, with the gate's pairs (R-3), which gate updates and holds change; beside the gate its map (R-12),
+-- which the calls that carry it change, and writes to it
 pub record Stores : Type 0 where
   pub bu : List ℕ
   pub bf : List Float
   pub gu : List ℕ
   pub gf : List Float
+  pub map : List ℕ
 
 -- what a call answers, 0 or its refusal, and the stores that it leaves
 unfoldable pub step : Stores → Call → ℕ × Stores
-step s (bank h) = let a = bankUpdate (s .bu) (s .bf) h in (a .0, record { bu = a .1; bf = a .2; gu = s .gu; gf = s .gf })
-step s (gate h rise drop) =
-    let a = gateUpdate (s .bu) (s .bf) (s .gu) (s .gf) h rise drop in
-    (a .0, record { bu = s .bu; bf = s .bf; gu = a .1; gf = a .2 })
-step s (hold rise drop) =
-    let a = gateHold (s .bu) (s .bf) (s .gu) (s .gf) rise drop in
-    (a .0, record { bu = s .bu; bf = s .bf; gu = s .gu; gf = a .1 })
+step s (bank h) = let a = bankUpdate (s .bu) (s .bf) h in (a .0, record { bu = a .1; bf = a .2; gu = s .gu; gf = s .gf; map = s .map })
+step s (gate c h rise drop) =
+    let a = gateUpdateIf c (s .bu) (s .bf) (s .gu) (s .gf) (s .map) h rise drop in
+    (a .0, record { bu = s .bu; bf = s .bf; gu = a .1; gf = a .2; map = a .3 })
+step s (hold c rise drop) =
+    let a = gateHoldIf c (s .bu) (s .bf) (s .gu) (s .gf) (s .map) rise drop in
+    (a .0, record { bu = s .bu; bf = s .bf; gu = s .gu; gf = a .1; map = a .2 })
+step s (write i v) =
+    let a = mapWrite (s .gu) (s .gf) (s .map) i v in
+    (a .0, record { bu = s .bu; bf = s .bf; gu = s .gu; gf = s .gf; map = a .1 })
 
 abbrev pub answer : Stores → Call → ℕ
 answer s c = step s c .0
@@ -52,21 +59,24 @@ left s c = step s c .1
 -- what the output slice rise holds after a gate update or a hold
 unfoldable pub risesOf : Stores → Call → List ℕ
 risesOf s (bank h) = []
-risesOf s (gate h rise drop) = gateUpdate (s .bu) (s .bf) (s .gu) (s .gf) h rise drop .3
-risesOf s (hold rise drop) = gateHold (s .bu) (s .bf) (s .gu) (s .gf) rise drop .2
+risesOf s (gate c h rise drop) = gateUpdateIf c (s .bu) (s .bf) (s .gu) (s .gf) (s .map) h rise drop .4
+risesOf s (hold c rise drop) = gateHoldIf c (s .bu) (s .bf) (s .gu) (s .gf) (s .map) rise drop .3
+risesOf s (write i v) = []
 
 -- a call's arguments "apart from the lent stores and what the outputs held before"
 pub data Arguments : Type 0 where
   bank : Hop → Arguments
-  gate : GateHop → ℕ → ℕ → Arguments
-  hold : ℕ → ℕ → Arguments
+  gate : Bool → GateHop → ℕ → ℕ → Arguments
+  hold : Bool → ℕ → ℕ → Arguments
+  write : ℕ → ℕ → Arguments
 
 abbrev pub arguments : Call → Arguments
 arguments (bank h) = bank h
-arguments (gate h rise drop) = gate h (length rise) (length drop)
-arguments (hold rise drop) = hold (length rise) (length drop)
+arguments (gate c h rise drop) = gate c h (length rise) (length drop)
+arguments (hold c rise drop) = hold c (length rise) (length drop)
+arguments (write i v) = write i v
 
--- ---- lists of calls: "each call is lent the bank and gate as the call before left them"
+-- ---- lists of calls: "each call is lent the bank and gate as the call before left them", and the map
 
 abbrev pub leftBy : Stores → List Call → Stores
 leftBy s [] = s
@@ -79,14 +89,16 @@ answers s (c ∷ cs) = answer s c ∷ answers (left s c) cs
 -- "a call is accepted if it isn't refused": the hop of an accepted bank update, and of an accepted gate update
 abbrev pub bankHop : ℕ → Arguments → List Hop
 bankHop zero (bank h) = h ∷ []
-bankHop zero (gate h rise drop) = []
-bankHop zero (hold rise drop) = []
+bankHop zero (gate c h rise drop) = []
+bankHop zero (hold c rise drop) = []
+bankHop zero (write i v) = []
 bankHop (suc r) c = []
 
 abbrev pub gateHop : ℕ → Arguments → List GateHop
 gateHop zero (bank h) = []
-gateHop zero (gate h rise drop) = h ∷ []
-gateHop zero (hold rise drop) = []
+gateHop zero (gate c h rise drop) = h ∷ []
+gateHop zero (hold c rise drop) = []
+gateHop zero (write i v) = []
 gateHop (suc r) c = []
 
 abbrev pub bankHops : Stores → List Call → List Hop
@@ -134,13 +146,18 @@ newBank k s = bankNew (s .bu) (s .bf) (k .n)
 unfoldable pub newGate : Making → Stores → ℕ × List ℕ × List Float
 newGate k s = gateNew (s .gu) (s .gf) (k .gate-n) (k .on) (k .off) (k .early) (k .lengths)
 
-abbrev pub made : Making → Stores → Stores
-made k s = record { bu = newBank k s .1; bf = newBank k s .2; gu = newGate k s .1; gf = newGate k s .2 }
+-- R-12: "a lent map starts fresh beside its gate, made for the same n"
+unfoldable pub newMap : Making → Stores → ℕ × List ℕ
+newMap k s = mapNew (newGate k s .1) (newGate k s .2) (s .map)
 
--- neither is refused
+abbrev pub made : Making → Stores → Stores
+made k s = record { bu = newBank k s .1; bf = newBank k s .2; gu = newGate k s .1; gf = newGate k s .2; map = newMap k s .1 }
+
+-- none is refused. A set that never carries a map has none: any bytes of the right length stand for it, since they are not touched
 pub record Made (k : Making) (s : Stores) : Type 0 where
   pub bank : newBank k s .0 ≡ 0
   pub gate : newGate k s .0 ≡ 0
+  pub map : newMap k s .0 ≡ 0
 
 -- ---- the claim
 
@@ -178,7 +195,7 @@ abbrev pub Demand3 : Type 0
 Demand3 =
     -- "each from a fresh bank and gate of equal settings"
     (k : Making) (p q : Stores) → Made k p → Made k q
-    -- "take any two lists of bank updates, gate updates and holds"
+    -- "take any two lists of bank updates, gate updates and holds", and of writes to the map
     → (xs ys : List Call)
     -- "whose numbers of accepted bank updates are equal modulo 15"
     → bankUpdates (made k p) xs % decimationHops ≡ bankUpdates (made k q) ys % decimationHops

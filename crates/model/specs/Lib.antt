@@ -13,6 +13,9 @@ pub mod Windows
 pub mod Gate
 pub mod GateStores
 pub mod GateCalls
+pub mod Map
+pub mod MapCalls
+pub mod MapReach
 pub mod Bench
 pub mod Sound
 pub mod GoodBank
@@ -28,3 +31,4 @@ pub mod Remembered
 pub mod Exports
 pub mod Segments
 pub mod Louder
+pub mod MapSets

@@ -9,8 +9,8 @@ use lib.Ieee.{nan}
 use Rattle.model.specs.Numbers.{f0}
 use Rattle.model.specs.Calls.{bankUpdate}
 use Rattle.model.specs.Gate.{Gate, thresholdOf}
-use Rattle.model.specs.GateCalls.{gateUpdate, gateHold}
-use Rattle.model.specs.Demand3.{Call, bank, gate, hold, Stores, left, leftBy, Making, made, Made}
+use Rattle.model.specs.MapCalls.{mapWrite, gateUpdateIf, gateHoldIf}
+use Rattle.model.specs.Demand3.{Call, bank, gate, hold, write, Stores, left, leftBy, Making, made, Made}
 use Rattle.model.specs.Sets.{gateIn}
 use Rattle.model.specs.Anew.{allSeenAnew}
 
@@ -28,12 +28,13 @@ StayTrue = (k : Making) (p : Stores) → Made k p → (cs : List Call) → Pairs
 -- a call's answer, and what its output slices, rise and drop, hold after it
 unfoldable pub seen : Stores → Call → ℕ × List ℕ × List ℕ
 seen s (bank h) = (bankUpdate (s .bu) (s .bf) h .0, [], [])
-seen s (gate h rise drop) =
-    let a = gateUpdate (s .bu) (s .bf) (s .gu) (s .gf) h rise drop in
+seen s (gate c h rise drop) =
+    let a = gateUpdateIf c (s .bu) (s .bf) (s .gu) (s .gf) (s .map) h rise drop in
+    (a .0, a .4, a .5)
+seen s (hold c rise drop) =
+    let a = gateHoldIf c (s .bu) (s .bf) (s .gu) (s .gf) (s .map) rise drop in
     (a .0, a .3, a .4)
-seen s (hold rise drop) =
-    let a = gateHold (s .bu) (s .bf) (s .gu) (s .gf) rise drop in
-    (a .0, a .2, a .3)
+seen s (write i v) = (mapWrite (s .gu) (s .gf) (s .map) i v .0, [], [])
 
 abbrev pub allSeen : Stores → List Call → List (ℕ × List ℕ × List ℕ)
 allSeen s [] = []

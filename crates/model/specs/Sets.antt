@@ -3,10 +3,12 @@
 use mathlib.Core.Path.{_≡_}
 use mathlib.Core.Bool.{true}
 use mathlib.Core.List.{List}
+use lib.ListN.{getD}
 use Rattle.model.specs.Refusals.{bankRefusal}
 use Rattle.model.specs.Gate.{Gate}
 use Rattle.model.specs.GateStores.{gateOf}
 use Rattle.model.specs.GateCalls.{absent, gateRefusal}
+use Rattle.model.specs.MapCalls.{mapRefusal}
 use Rattle.model.specs.GoodBank.{Good}
 use Rattle.model.specs.GoodGate.{GoodGate}
 use Rattle.model.specs.Demand3.{Call, Stores, leftBy, bankIn, Making, made, Made, Enough}
@@ -14,12 +16,13 @@ use Rattle.model.specs.Demand3.{Call, Stores, leftBy, bankIn, Making, ma
 abbrev pub gateIn : Stores → Gate
 gateIn s = gateOf (s .gu) (s .gf)
 
--- neither store is refused, with 2 or with 9, and both hold what is sound
+-- no store is refused, with 2 or with 9, and they hold what is sound; R-12: the map is one for the gate's n
 pub record Sound (s : Stores) : Type 0 where
   pub bank-passes : bankRefusal (s .bu) (s .bf) ≡ 0
   pub bank-good : Good (bankIn s)
   pub gate-passes : gateRefusal (s .gu) (s .gf) ≡ 0
   pub gate-good : GoodGate (gateIn s)
+  pub map-passes : mapRefusal (getD (s .gu) 0 0) (s .map) ≡ 0
 
 -- whatever the calls, refused or not, a set that was fresh is sound
 abbrev pub StaySound : Type 0

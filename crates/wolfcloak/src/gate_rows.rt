@@ -1,7 +1,8 @@
 // The C interface, the gate's rows.
 ghost use mathlib.Core.Path.{_≡_};
-ghost use Rattle.roles.specs.Rights.{gate-new, gate-update, gate-hold, smoothed-db, ema-rise, asRole};
+ghost use Rattle.roles.specs.Rights.{gate-new, gate-remake, gate-update, gate-hold, smoothed-db, ema-rise, asRole};
 ghost use Rattle.model.specs.GateCalls.{gateFLenFor, gateNew, gateUpdate, gateHold, smoothedReading, earlyReading};
+ghost use Rattle.gate_remake.specs.Remake.{gateRemake};
 ghost use Rattle.answers.specs.Answers.{answered};
 
 #[no_mangle]
@@ -28,6 +29,23 @@ pub extern "C" fn wolfcloak_gate_new(
         return roles::STOPPED;
     }
     gate_making::gate_new(gate, gate_f, n, on, off, early, lengths)
+}
+
+#[no_mangle]
+pub extern "C" fn wolfcloak_gate_remake(
+    role: u16,
+    gate: &mut [u16],
+    gate_f: &mut [f64],
+    on: i32,
+    off: i32,
+    early: i32,
+) -> u16
+    ensures { λ r. ⌜ (r, now (gate .exit), now («gate_f» .exit)) ≡ asRole gate-remake role (λ r. (r, now (gate .entry), now («gate_f» .entry))) (gateRemake (now (gate .entry)) (now («gate_f» .entry)) on off early) ⌝ }
+{
+    if !roles::may(roles::LEADER, role) {
+        return roles::STOPPED;
+    }
+    gate_remake::gate_remake(gate, gate_f, on, off, early)
 }
 
 #[no_mangle]
