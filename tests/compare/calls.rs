@@ -4,11 +4,11 @@ use crate::floor::{FloorBank, Gate};
 use crate::layout::place;
 use crate::roles::stopped_or;
 use crate::rules::{
-    refusal, Rule, GATE_FLOATS, GATE_HOLD, GATE_MAKING, GATE_READ, GATE_SOUND, GATE_STORE, GATE_UPDATE, MAKING, PAIR, READ,
+    refusal, Rule, GATE_FLOATS, GATE_HOLD, GATE_MAKING, GATE_READ, GATE_REMAKING, GATE_SOUND, GATE_STORE, GATE_UPDATE, MAKING, PAIR, READ,
     SOUND, STORE, UPDATE,
 };
 use crate::tally::Tally;
-use crate::wolfcloak::{self as lib, KEEPER, TECHNICIAN};
+use crate::wolfcloak::{self as lib, KEEPER, LEADER, TECHNICIAN};
 use std::fmt::Arguments;
 
 #[derive(Clone, Copy, Default)]
@@ -153,6 +153,7 @@ pub fn every_call(t: &mut Tally, what: Arguments, l: &Lent) {
     update(t, format_args!("{what}: bank_update {:?}", l.hold), l, stopped_or(TECHNICIAN, then(bank, &UPDATE)));
     readings(t, what, &c, stopped_or(KEEPER, then(bank, &READ)));
     let gate = refusal(&c, &[&GATE_STORE, &GATE_SOUND, &GATE_FLOATS]);
+    remaking(t, format_args!("{what}: gate_remake"), l, stopped_or(LEADER, then(gate, &GATE_REMAKING)));
     let both = then(if bank != 0 { bank } else { gate }, &PAIR);
     gate_update(t, format_args!("{what}: gate_update"), l, stopped_or(TECHNICIAN, then(both, &GATE_UPDATE)));
     gate_hold(t, format_args!("{what}: gate_hold"), l, stopped_or(TECHNICIAN, then(both, &GATE_HOLD)));
@@ -171,6 +172,17 @@ pub fn gate_making(t: &mut Tally, what: Arguments, l: &Lent) {
     let due = stopped_or(TECHNICIAN, refusal(&l.call(), &[&GATE_MAKING]));
     t.answer(what, lib::gate_new(&mut g[..l.gate_len], &mut f[..l.gate_f_len], l.n, l.levels, &l.lengths), due);
     l.compare_gate(t, what, &g, &f, (due == 0).then(|| Gate::made(l.n, l.levels, &l.lengths).to_stores()));
+}
+
+/// of the gate its n and its lengths in their order stay, and with the levels it is as making leaves it.
+fn remaking(t: &mut Tally, what: Arguments, l: &Lent, due: u16) {
+    let (mut g, mut f) = (l.gate.clone(), l.gate_f.clone());
+    t.answer(what, lib::gate_remake(&mut g[..l.gate_len], &mut f[..l.gate_f_len], l.levels), due);
+    let made = || {
+        let lengths: Vec<u16> = l.gate[6..].chunks(3).take(l.gate[5] as usize).map(|t| t[0]).collect();
+        Gate::made(l.gate[0] as usize, l.levels, &lengths).to_stores()
+    };
+    l.compare_gate(t, what, &g, &f, (due == 0).then(made));
 }
 
 fn update(t: &mut Tally, what: Arguments, l: &Lent, due: u16) {

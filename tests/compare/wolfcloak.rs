@@ -54,6 +54,7 @@ extern "C" {
         role: u16, g: *mut u16, gl: usize, h: *mut f64, hl: usize, n: usize,
         on: i32, off: i32, early: i32, lengths: *const u16, lengths_len: usize,
     ) -> u16;
+    fn wolfcloak_gate_remake(role: u16, g: *mut u16, gl: usize, h: *mut f64, hl: usize, on: i32, off: i32, early: i32) -> u16;
     fn wolfcloak_gate_update(
         role: u16, b: *const u16, bl: usize, f: *const f64, fl: usize, g: *mut u16, gl: usize, h: *mut f64, hl: usize,
         power_db: *const f64, power_db_len: usize, power: *const f32, power_len: usize,
@@ -134,6 +135,11 @@ pub fn gate_new(g: &mut [u16], h: &mut [f64], n: usize, levels: [i32; 3], length
     let [on, off, early] = levels;
     let (m, ml) = (lengths.as_ptr(), lengths.len());
     unsafe { wolfcloak_gate_new(role(), g.as_mut_ptr(), g.len(), h.as_mut_ptr(), h.len(), n, on, off, early, m, ml) }
+}
+
+pub fn gate_remake(g: &mut [u16], h: &mut [f64], levels: [i32; 3]) -> u16 {
+    let [on, off, early] = levels;
+    unsafe { wolfcloak_gate_remake(role(), g.as_mut_ptr(), g.len(), h.as_mut_ptr(), h.len(), on, off, early) }
 }
 
 /// `bank` and `gate` are the two stores of each, `hop` dB and power, `marks` rise and drop.

@@ -283,7 +283,7 @@ static void roles(void)
 
     expect("a keeper's reading", wolfcloak_channel_floor_db(WOLFCLOAK_KEEPER, bank, TWO, bank_f, 10, 1, &value), WOLFCLOAK_OK);
     value = 7;
-    expect("a reading in role 3", wolfcloak_channel_floor_db(me, 3, bank, TWO, bank_f, 10, 2, &value), WOLFCLOAK_REFUSED_RIGHT);
+    expect("a reading in role 3", wolfcloak_channel_floor_db(3, bank, TWO, bank_f, 10, 2, &value), WOLFCLOAK_REFUSED_RIGHT);
     expect("its value", value, 7);
     expect("a keeper's hold, with a store that is no gate",
            wolfcloak_gate_hold(WOLFCLOAK_KEEPER, bank, TWO, bank_f, 10, gate, 30, &value, 1, rise, 2, drop, 2),

@@ -1,5 +1,5 @@
-// Document 02, R-14: whether a role has a right. The table of rights stands in specs/; a row of the C interface names the least role
-// that its call has there.
+// Document 02, R-14: whether a role has a right. The table of rights, for each exported call, stands in specs/; a row of the C interface names the
+// right that it asks for.
 ghost use mathlib.Core.Path.{_≡_};
 ghost use mathlib.Core.Bool.{_&&_};
 ghost use lib.Dec.{leb};
@@ -10,6 +10,25 @@ pub const KEEPER: u16 = 0;
 pub const LEADER: u16 = 1;
 
 pub const TECHNICIAN: u16 = 2;
+
+// The rights, in the words of document 02, and the least role that has each.
+pub const READING: u16 = KEEPER;
+
+pub const EXPLAINING: u16 = KEEPER;
+
+pub const WRITING_REGISTERS: u16 = LEADER;
+
+pub const REMAKING: u16 = LEADER;
+
+pub const UPDATING: u16 = TECHNICIAN;
+
+pub const HOLDING: u16 = TECHNICIAN;
+
+pub const MAKING: u16 = TECHNICIAN;
+
+pub const LOGGING: u16 = TECHNICIAN;
+
+pub const DISPATCHING: u16 = TECHNICIAN;
 
 // The answer of a call that is stopped.
 pub const STOPPED: u16 = 16;

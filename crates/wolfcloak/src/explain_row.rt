@@ -17,7 +17,7 @@ pub extern "C" fn wolfcloak_explain(
 ) -> u16
     ensures { λ r. ⌜ (r, now («effective_origin» .exit), now (effective .exit), now («rise_origin» .exit), now (rise .exit)) ≡ asRole explain role (λ r. (r, now («effective_origin» .entry), now (effective .entry), now («rise_origin» .entry), now (rise .entry))) (explainedAnswered (now («effective_origin» .entry)) (now (effective .entry)) (now («rise_origin» .entry)) (now (rise .entry)) (explained (now (bank .entry)) (now («bank_f» .entry)) k)) ⌝ }
 {
-    if !roles::may(roles::KEEPER, role) {
+    if !roles::may(roles::EXPLAINING, role) {
         return roles::STOPPED;
     }
     answers::explained::explained_answer(

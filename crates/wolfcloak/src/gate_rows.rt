@@ -25,7 +25,7 @@ pub extern "C" fn wolfcloak_gate_new(
 ) -> u16
     ensures { λ r. ⌜ (r, now (gate .exit), now («gate_f» .exit)) ≡ asRole gate-new role (λ r. (r, now (gate .entry), now («gate_f» .entry))) (gateNew (now (gate .entry)) (now («gate_f» .entry)) n on off early (now (lengths .entry))) ⌝ }
 {
-    if !roles::may(roles::TECHNICIAN, role) {
+    if !roles::may(roles::MAKING, role) {
         return roles::STOPPED;
     }
     gate_making::gate_new(gate, gate_f, n, on, off, early, lengths)
@@ -42,7 +42,7 @@ pub extern "C" fn wolfcloak_gate_remake(
 ) -> u16
     ensures { λ r. ⌜ (r, now (gate .exit), now («gate_f» .exit)) ≡ asRole gate-remake role (λ r. (r, now (gate .entry), now («gate_f» .entry))) (gateRemake (now (gate .entry)) (now («gate_f» .entry)) on off early) ⌝ }
 {
-    if !roles::may(roles::LEADER, role) {
+    if !roles::may(roles::REMAKING, role) {
         return roles::STOPPED;
     }
     gate_remake::gate_remake(gate, gate_f, on, off, early)
@@ -62,7 +62,7 @@ pub extern "C" fn wolfcloak_gate_update(
 ) -> u16
     ensures { λ r. ⌜ (r, now (gate .exit), now («gate_f» .exit), now (rise .exit), now (drop .exit)) ≡ asRole gate-update role (λ r. (r, now (gate .entry), now («gate_f» .entry), now (rise .entry), now (drop .entry))) (gateUpdate (now (bank .entry)) (now («bank_f» .entry)) (now (gate .entry)) (now («gate_f» .entry)) (record { db = now («power_db» .entry); power = now (power .entry) }) (now (rise .entry)) (now (drop .entry))) ⌝ }
 {
-    if !roles::may(roles::TECHNICIAN, role) {
+    if !roles::may(roles::UPDATING, role) {
         return roles::STOPPED;
     }
     gate::gate_update(bank, bank_f, gate, gate_f, power_db, power, rise, drop)
@@ -80,7 +80,7 @@ pub extern "C" fn wolfcloak_gate_hold(
 ) -> u16
     ensures { λ r. ⌜ (r, now («gate_f» .exit), now (rise .exit), now (drop .exit)) ≡ asRole gate-hold role (λ r. (r, now («gate_f» .entry), now (rise .entry), now (drop .entry))) (gateHold (now (bank .entry)) (now («bank_f» .entry)) (now (gate .entry)) (now («gate_f» .entry)) (now (rise .entry)) (now (drop .entry))) ⌝ }
 {
-    if !roles::may(roles::TECHNICIAN, role) {
+    if !roles::may(roles::HOLDING, role) {
         return roles::STOPPED;
     }
     gate::gate_hold(bank, bank_f, gate, gate_f, rise, drop)
@@ -96,7 +96,7 @@ pub extern "C" fn wolfcloak_smoothed_db(
 ) -> u16
     ensures { λ r. ⌜ (r, now (value .exit)) ≡ asRole smoothed-db role (λ r. (r, now (value .entry))) (answered (now (value .entry)) (smoothedReading (now (gate .entry)) (now («gate_f» .entry)) k)) ⌝ }
 {
-    if !roles::may(roles::KEEPER, role) {
+    if !roles::may(roles::READING, role) {
         return roles::STOPPED;
     }
     answers::value_answer(gate_readings::smoothed_db(gate, gate_f, k), value)
@@ -114,7 +114,7 @@ pub extern "C" fn wolfcloak_ema_rise(
 ) -> u16
     ensures { λ r. ⌜ (r, now (value .exit)) ≡ asRole ema-rise role (λ r. (r, now (value .entry))) (answered (now (value .entry)) (earlyReading (now (bank .entry)) (now («bank_f» .entry)) (now (gate .entry)) (now («gate_f» .entry)) k)) ⌝ }
 {
-    if !roles::may(roles::KEEPER, role) {
+    if !roles::may(roles::READING, role) {
         return roles::STOPPED;
     }
     answers::value_answer(

@@ -36,7 +36,7 @@ pub extern "C" fn wolfcloak_bank_new(
 ) -> u16
     ensures { λ r. ⌜ (r, now (bank .exit), now («bank_f» .exit)) ≡ asRole bank-new role (λ r. (r, now (bank .entry), now («bank_f» .entry))) (bankNew (now (bank .entry)) (now («bank_f» .entry)) n) ⌝ }
 {
-    if !roles::may(roles::TECHNICIAN, role) {
+    if !roles::may(roles::MAKING, role) {
         return roles::STOPPED;
     }
     bank_making::bank_new(bank, bank_f, n)
@@ -52,7 +52,7 @@ pub extern "C" fn wolfcloak_bank_update(
 ) -> u16
     ensures { λ r. ⌜ (r, now (bank .exit), now («bank_f» .exit)) ≡ asRole bank-update role (λ r. (r, now (bank .entry), now («bank_f» .entry))) (bankUpdate (now (bank .entry)) (now («bank_f» .entry)) (hop false (now («power_db» .entry)) (now (power .entry)))) ⌝ }
 {
-    if !roles::may(roles::TECHNICIAN, role) {
+    if !roles::may(roles::UPDATING, role) {
         return roles::STOPPED;
     }
     bank::bank_update(bank, bank_f, power_db, power)
@@ -69,7 +69,7 @@ pub extern "C" fn wolfcloak_bank_update_holding_reference(
 ) -> u16
     ensures { λ r. ⌜ (r, now (bank .exit), now («bank_f» .exit)) ≡ asRole bank-update-holding-reference role (λ r. (r, now (bank .entry), now («bank_f» .entry))) (bankUpdate (now (bank .entry)) (now («bank_f» .entry)) (hop «hold_reference» (now («power_db» .entry)) (now (power .entry)))) ⌝ }
 {
-    if !roles::may(roles::TECHNICIAN, role) {
+    if !roles::may(roles::UPDATING, role) {
         return roles::STOPPED;
     }
     bank::bank_update_holding_reference(bank, bank_f, power_db, power, hold_reference)
@@ -85,7 +85,7 @@ pub extern "C" fn wolfcloak_channel_floor_db(
 ) -> u16
     ensures { λ r. ⌜ (r, now (value .exit)) ≡ asRole channel-floor-db role (λ r. (r, now (value .entry))) (answered (now (value .entry)) (rawReading (now (bank .entry)) (now («bank_f» .entry)) k)) ⌝ }
 {
-    if !roles::may(roles::KEEPER, role) {
+    if !roles::may(roles::READING, role) {
         return roles::STOPPED;
     }
     answers::value_answer(readings::channel_floor_db(bank, bank_f, k), value)
@@ -101,7 +101,7 @@ pub extern "C" fn wolfcloak_effective_floor_db(
 ) -> u16
     ensures { λ r. ⌜ (r, now (value .exit)) ≡ asRole effective-floor-db role (λ r. (r, now (value .entry))) (answered (now (value .entry)) (effectiveReading (now (bank .entry)) (now («bank_f» .entry)) k)) ⌝ }
 {
-    if !roles::may(roles::KEEPER, role) {
+    if !roles::may(roles::READING, role) {
         return roles::STOPPED;
     }
     answers::value_answer(readings::effective_floor_db(bank, bank_f, k), value)
@@ -117,7 +117,7 @@ pub extern "C" fn wolfcloak_rise_floor_db(
 ) -> u16
     ensures { λ r. ⌜ (r, now (value .exit)) ≡ asRole rise-floor-db role (λ r. (r, now (value .entry))) (answered (now (value .entry)) (riseReading (now (bank .entry)) (now («bank_f» .entry)) k)) ⌝ }
 {
-    if !roles::may(roles::KEEPER, role) {
+    if !roles::may(roles::READING, role) {
         return roles::STOPPED;
     }
     answers::value_answer(readings::rise_floor_db(bank, bank_f, k), value)
@@ -133,7 +133,7 @@ pub extern "C" fn wolfcloak_spectral_reference(
 ) -> u16
     ensures { λ r. ⌜ (r, now (value .exit)) ≡ asRole spectral-reference role (λ r. (r, now (value .entry))) (answered (now (value .entry)) (referenceReading (now (bank .entry)) (now («bank_f» .entry)) k)) ⌝ }
 {
-    if !roles::may(roles::KEEPER, role) {
+    if !roles::may(roles::READING, role) {
         return roles::STOPPED;
     }
     answers::value_answer(readings::spectral_reference(bank, bank_f, k), value)
@@ -151,7 +151,7 @@ pub extern "C" fn wolfcloak_floors(
 ) -> u16
     ensures { λ r. ⌜ (r, now (effective .exit), now (rise .exit), now (raw .exit)) ≡ asRole floors role (λ r. (r, now (effective .entry), now (rise .entry), now (raw .entry))) (floorsAnswered (now (effective .entry)) (now (rise .entry)) (now (raw .entry)) (floorsReading (now (bank .entry)) (now («bank_f» .entry)) k)) ⌝ }
 {
-    if !roles::may(roles::KEEPER, role) {
+    if !roles::may(roles::READING, role) {
         return roles::STOPPED;
     }
     answers::floors_answer(readings::floors(bank, bank_f, k), effective, rise, raw)
@@ -169,7 +169,7 @@ pub extern "C" fn wolfcloak_ring(
 ) -> u16
     ensures { λ r. ⌜ (r, now (start .exit), now (len .exit)) ≡ asRole ring role (λ r. (r, now (start .entry), now (len .entry))) (ringAnswered (now (bank .entry)) (now («bank_f» .entry)) k (now (start .entry)) (now (len .entry))) ⌝ }
 {
-    if !roles::may(roles::KEEPER, role) {
+    if !roles::may(roles::READING, role) {
         return roles::STOPPED;
     }
     answers::ring_answer(bank, bank_f, k, start, len)

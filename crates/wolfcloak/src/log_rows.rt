@@ -16,7 +16,7 @@ pub extern "C" fn wolfcloak_log_write(
 ) -> u16
     ensures { λ r. ⌜ (r, now (len .exit), now (log .exit)) ≡ asRole log-write role (λ r. (r, now (len .entry), now (log .entry))) (writeAnswered (now (len .entry)) (written n (now («db_bits» .entry)) (now («power_bits» .entry)) (now (log .entry)))) ⌝ }
 {
-    if !roles::may(roles::TECHNICIAN, role) {
+    if !roles::may(roles::LOGGING, role) {
         return roles::STOPPED;
     }
     log_answers::length_answer(log_write::log_write(n, db_bits, power_bits, log), len)
@@ -26,7 +26,7 @@ pub extern "C" fn wolfcloak_log_write(
 pub extern "C" fn wolfcloak_log_channels(role: u16, log: &[u8], n: &mut usize) -> u16
     ensures { λ r. ⌜ (r, now (n .exit)) ≡ asRole log-channels role (λ r. (r, now (n .entry))) (channelsAnswered (now (n .entry)) (channels (now (log .entry)))) ⌝ }
 {
-    if !roles::may(roles::TECHNICIAN, role) {
+    if !roles::may(roles::LOGGING, role) {
         return roles::STOPPED;
     }
     log_answers::channels_answer(log_read::log_channels(log), n)
@@ -42,7 +42,7 @@ pub extern "C" fn wolfcloak_log_read(
 ) -> u16
     ensures { λ r. ⌜ (r, now (position .exit), now («db_bits» .exit), now («power_bits» .exit)) ≡ asRole log-read role (λ r. (r, now (position .entry), now («db_bits» .entry), now («power_bits» .entry))) (readAnswered (now (position .entry)) (readHop (now (log .entry)) (now (position .entry)) (now («db_bits» .entry)) (now («power_bits» .entry)))) ⌝ }
 {
-    if !roles::may(roles::TECHNICIAN, role) {
+    if !roles::may(roles::LOGGING, role) {
         return roles::STOPPED;
     }
     let at = *position;

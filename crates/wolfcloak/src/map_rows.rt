@@ -14,7 +14,7 @@ pub extern "C" fn wolfcloak_map_len(n: usize) -> usize
 pub extern "C" fn wolfcloak_map_new(role: u16, gate: &[u16], gate_f: &[f64], map: &mut [u8]) -> u16
     ensures { λ r. ⌜ (r, now (map .exit)) ≡ asRole map-new role (λ r. (r, now (map .entry))) (mapNew (now (gate .entry)) (now («gate_f» .entry)) (now (map .entry))) ⌝ }
 {
-    if !roles::may(roles::TECHNICIAN, role) {
+    if !roles::may(roles::MAKING, role) {
         return roles::STOPPED;
     }
     registers::map_new(gate, gate_f, map)
@@ -35,7 +35,7 @@ pub extern "C" fn wolfcloak_gate_update_map(
 ) -> u16
     ensures { λ r. ⌜ (r, now (gate .exit), now («gate_f» .exit), now (map .exit), now (rise .exit), now (drop .exit)) ≡ asRole gate-update-map role (λ r. (r, now (gate .entry), now («gate_f» .entry), now (map .entry), now (rise .entry), now (drop .entry))) (gateUpdateMap (now (bank .entry)) (now («bank_f» .entry)) (now (gate .entry)) (now («gate_f» .entry)) (now (map .entry)) (record { db = now («power_db» .entry); power = now (power .entry) }) (now (rise .entry)) (now (drop .entry))) ⌝ }
 {
-    if !roles::may(roles::TECHNICIAN, role) {
+    if !roles::may(roles::UPDATING, role) {
         return roles::STOPPED;
     }
     gate_map::gate_update_map(bank, bank_f, gate, gate_f, map, power_db, power, rise, drop)
@@ -54,7 +54,7 @@ pub extern "C" fn wolfcloak_gate_hold_map(
 ) -> u16
     ensures { λ r. ⌜ (r, now («gate_f» .exit), now (map .exit), now (rise .exit), now (drop .exit)) ≡ asRole gate-hold-map role (λ r. (r, now («gate_f» .entry), now (map .entry), now (rise .entry), now (drop .entry))) (gateHoldMap (now (bank .entry)) (now («bank_f» .entry)) (now (gate .entry)) (now («gate_f» .entry)) (now (map .entry)) (now (rise .entry)) (now (drop .entry))) ⌝ }
 {
-    if !roles::may(roles::TECHNICIAN, role) {
+    if !roles::may(roles::HOLDING, role) {
         return roles::STOPPED;
     }
     gate_map::gate_hold_map(bank, bank_f, gate, gate_f, map, rise, drop)
@@ -71,7 +71,7 @@ pub extern "C" fn wolfcloak_map_read(
 ) -> u16
     ensures { λ r. ⌜ (r, now (value .exit)) ≡ asRole map-read role (λ r. (r, now (value .entry))) (mapRead (now (gate .entry)) (now («gate_f» .entry)) (now (map .entry)) address (now (value .entry))) ⌝ }
 {
-    if !roles::may(roles::KEEPER, role) {
+    if !roles::may(roles::READING, role) {
         return roles::STOPPED;
     }
     registers::map_read(gate, gate_f, map, address, value)
@@ -88,7 +88,7 @@ pub extern "C" fn wolfcloak_map_write(
 ) -> u16
     ensures { λ r. ⌜ (r, now (map .exit)) ≡ asRole map-write role (λ r. (r, now (map .entry))) (mapWrite (now (gate .entry)) (now («gate_f» .entry)) (now (map .entry)) address value) ⌝ }
 {
-    if !roles::may(roles::LEADER, role) {
+    if !roles::may(roles::WRITING_REGISTERS, role) {
         return roles::STOPPED;
     }
     registers::map_write(gate, gate_f, map, address, value)
@@ -104,7 +104,7 @@ pub extern "C" fn wolfcloak_map_wire(
 ) -> u16
     ensures { λ r. ⌜ (r, now (up .exit)) ≡ asRole map-wire role (λ r. (r, now (up .entry))) (mapWire (now (gate .entry)) (now («gate_f» .entry)) (now (map .entry)) (now (up .entry))) ⌝ }
 {
-    if !roles::may(roles::KEEPER, role) {
+    if !roles::may(roles::READING, role) {
         return roles::STOPPED;
     }
     registers::map_wire(gate, gate_f, map, up)
