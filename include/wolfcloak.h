@@ -55,11 +55,11 @@ extern "C" {
  * Who may turn what. A set is shared between a watch keeper, a team leader and a service technician; the receiver itself acts as
  * technician. Each may do what those before may.
  *
- *   keeper        reads: channel_floor_db, effective_floor_db, rise_floor_db, spectral_reference, floors, ring, smoothed_db, ema_rise;
- *                 explain
- *   leader        also remakes a gate: gate_remake
- *   technician    everything else: bank_new, bank_update, bank_update_holding_reference, gate_new, gate_update, gate_hold, log_write,
- *                 log_channels, log_read, dispatch
+ *   keeper        reads: channel_floor_db, effective_floor_db, rise_floor_db, spectral_reference, floors, ring, smoothed_db, ema_rise,
+ *                 map_read, map_wire; explain
+ *   leader        also writes masks and clears flags: map_write; and remakes a gate: gate_remake
+ *   technician    everything else: bank_new, bank_update, bank_update_holding_reference, gate_new, gate_update, gate_hold, map_new,
+ *                 gate_update_map, gate_hold_map, log_write, log_channels, log_read, log_combine, dispatch
  *
  * So calls by keepers alone leave every store as it was, and calls by leaders alone change no bank and no log. A call that is stopped
  * counts for nothing: it is no hop that was heard.
@@ -292,6 +292,17 @@ uint16_t wolfcloak_log_channels(uint16_t role, const uint8_t *log, size_t log_le
  */
 uint16_t wolfcloak_log_read(uint16_t role, const uint8_t *log, size_t log_len, size_t *position,
                             uint64_t *db_bits, size_t db_bits_len, uint32_t *power_bits, size_t power_bits_len);
+
+/*
+ * Two antennas, one log: writes the log in which each channel of each hop has the pair of the two logs with the larger power, and *len
+ * becomes its length. The first's on a tie, zeros of either sign tie; a NaN loses to a number, and of two NaNs the first's stays, with
+ * its bits. Bytes of log after it stay as they are; it takes at most 2 + hops * ((n + 7) / 8 + 12 * n) bytes. A log with itself gives
+ * that same log. log must not overlap the two.
+ * Refuses as the reader would that reads first to its end, hop by hop; then likewise for second; then with 13 for another n or another
+ * number of hops, then with 2 where log is too short.
+ */
+uint16_t wolfcloak_log_combine(uint16_t role, const uint8_t *first, size_t first_len, const uint8_t *second, size_t second_len,
+                               uint8_t *log, size_t log_len, size_t *len);
 
 /* ---- several band segments, 1 to 8, each with a bank and a gate of its own, on one processor ---- */
 

@@ -1,6 +1,7 @@
 /*
  * hoplog write RECORDING LOG    makes a hop log of a recording
  * hoplog read LOG RECORDING     makes a recording of a hop log
+ * hoplog combine A B OUT        makes one log of two antennas' logs
  *
  * A recording is as `watch --help` has it: n in two bytes, then for each hop a flag byte, n dB values (f64) and n powers (f32), low
  * byte first. A log keeps no flag: a recording that is read from one has 0 for each. Floats are moved as the bits that they are.
@@ -129,15 +130,34 @@ static void read_log(const char *log_name, const char *recording)
     }
 }
 
+static void combine_logs(const char *first_name, const char *second_name, const char *out)
+{
+    size_t first_len, second_len, len;
+    uint8_t *first = load(first_name, &first_len), *second = load(second_name, &second_len);
+    /* A hop of both takes no more pairs than the two take together. */
+    size_t most = first_len + second_len;
+    uint8_t *log = room(most);
+    uint16_t no = wolfcloak_log_combine(ROLE, first, first_len, second, second_len, log, most, &len);
+    if (no) {
+        fprintf(stderr, "hoplog: %s and %s: refused with %u\n", first_name, second_name, no);
+        exit(1);
+    }
+    save(out, log, len);
+    printf("logs of %zu and %zu bytes: %zu bytes\n", first_len, second_len, len);
+}
+
 int main(int argc, char **argv)
 {
     if (argc == 4 && strcmp(argv[1], "write") == 0)
         write_log(argv[2], argv[3]);
     else if (argc == 4 && strcmp(argv[1], "read") == 0)
         read_log(argv[2], argv[3]);
+    else if (argc == 5 && strcmp(argv[1], "combine") == 0)
+        combine_logs(argv[2], argv[3], argv[4]);
     else {
         fputs("hoplog write RECORDING LOG    makes a hop log of a recording\n"
-              "hoplog read LOG RECORDING     makes a recording of a hop log\n", stderr);
+              "hoplog read LOG RECORDING     makes a recording of a hop log\n"
+              "hoplog combine A B OUT        makes one log of two antennas' logs\n", stderr);
         return 2;
     }
     return 0;

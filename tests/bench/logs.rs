@@ -3,8 +3,8 @@ use crate::numbers::Rng;
 use crate::{log_rows, plain_log, time};
 
 /// Hops of noise, of which each pair stays as it was with this chance in a hundred.
-fn hops(n: usize, count: usize, kept: usize) -> (Vec<u64>, Vec<u32>) {
-    let mut rng = Rng(1);
+pub fn hops(n: usize, count: usize, kept: usize, seed: u64) -> (Vec<u64>, Vec<u32>) {
+    let mut rng = Rng(seed);
     let (mut db, mut power) = (vec![0; n * count], vec![0; n * count]);
     for i in 0..n * count {
         (db[i], power[i]) = if i >= n && rng.below(100) < kept {
@@ -16,14 +16,14 @@ fn hops(n: usize, count: usize, kept: usize) -> (Vec<u64>, Vec<u32>) {
     (db, power)
 }
 
-fn row(what: &str, bytes: usize, ours: f64, plain: f64) {
+pub fn rate_row(what: &str, bytes: usize, ours: f64, plain: f64) {
     let rate = |micros: f64| bytes as f64 / micros;
     println!("  {what:<22} {:9.0} MB/s   plain {:9.0} MB/s   ratio {:7.2}", rate(ours), rate(plain), ours / plain);
 }
 
 pub fn rows(n: usize, kept: usize) {
     let count = 500_000 / n;
-    let (db, power) = hops(n, count, kept);
+    let (db, power) = hops(n, count, kept, 1);
     let mut log = vec![0; 2 + count * (n.div_ceil(8) + 12 * n)];
     let mut len = 0;
     let mut best = [f64::MAX; 4];
@@ -44,6 +44,6 @@ pub fn rows(n: usize, kept: usize) {
     }
     let [write, plain_write, read, plain_read] = best;
     println!("hop log, n = {n}, {kept} of 100 pairs kept, {} bytes a hop", len / count);
-    row("write", len, write, plain_write);
-    row("read", len, read, plain_read);
+    rate_row("write", len, write, plain_write);
+    rate_row("read", len, read, plain_read);
 }

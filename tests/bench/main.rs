@@ -1,4 +1,5 @@
 // How long a call takes, beside floor.rs and beside one reading of the u16 store. Every number is the median of many calls.
+mod antennas;
 #[path = "../compare/build/channelizer.rs"]
 mod channelizer;
 #[allow(dead_code)]
@@ -16,6 +17,8 @@ mod logs;
 #[allow(dead_code)]
 #[path = "../compare/numbers.rs"]
 mod numbers;
+#[path = "../compare/plain_antennas.rs"]
+mod plain_antennas;
 #[path = "../compare/plain_log.rs"]
 mod plain_log;
 mod registers;
@@ -198,6 +201,7 @@ fn main() {
     for n in [32, 512] {
         for kept in [0, 90, 100] {
             logs::rows(n, kept);
+            antennas::row(n, kept);
         }
     }
 }

@@ -14,6 +14,9 @@ extern "C" {
         role: u16, log: *const u8, log_len: usize, position: *mut usize,
         db_bits: *mut u64, db_bits_len: usize, power_bits: *mut u32, power_bits_len: usize,
     ) -> u16;
+    fn wolfcloak_log_combine(
+        role: u16, first: *const u8, first_len: usize, second: *const u8, second_len: usize, log: *mut u8, log_len: usize, len: *mut usize,
+    ) -> u16;
 }
 
 pub fn write(n: usize, db: &[u64], power: &[u32], log: &mut [u8], len: &mut usize) -> u16 {
@@ -29,5 +32,11 @@ pub fn read(log: &[u8], position: &mut usize, db: &mut [u64], power: &mut [u32])
         wolfcloak_log_read(
             role(), log.as_ptr(), log.len(), position, db.as_mut_ptr(), db.len(), power.as_mut_ptr(), power.len(),
         )
+    }
+}
+
+pub fn combine(first: &[u8], second: &[u8], log: &mut [u8], len: &mut usize) -> u16 {
+    unsafe {
+        wolfcloak_log_combine(role(), first.as_ptr(), first.len(), second.as_ptr(), second.len(), log.as_mut_ptr(), log.len(), len)
     }
 }

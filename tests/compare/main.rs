@@ -1,6 +1,7 @@
 // The library beside floor.rs: the same calls, every answer, store word and reading compared.
 //   compare [SEED [JOBS]]   compare, all jobs or the first JOBS; the last line has the counts; status 1 if there is a difference
 //   compare sample FILE     write the kept list of calls with floor.rs's answers (README.md)
+mod antennas;
 mod bottom;
 mod calls;
 #[path = "build/channelizer.rs"]
@@ -18,6 +19,7 @@ mod louder;
 mod map_rows;
 mod numbers;
 mod pairs;
+mod plain_antennas;
 mod plain_log;
 mod registers;
 mod roles;
@@ -38,8 +40,8 @@ use tally::Tally;
 
 const SIZES: [usize; 13] = [1, 2, 3, 4, 5, 6, 31, 32, 33, 64, 65, 511, 512];
 
-/// Job i: the making of banks and gates, the ladder, the hop logs, the roles, the dispatcher and the registers, two histories, two lists of which
-/// one is louder, arbitrary stores of some size, or a run of some size and plan.
+/// Job i: the making of banks and gates, the ladder, the hop logs, two antennas, the roles, the dispatcher and the registers, two histories, two
+/// lists of which one is louder, arbitrary stores of some size, or a run of some size and plan.
 fn job(i: usize, seed: u64, alone: &mut Alone) -> Option<Tally> {
     let mut t = Tally::default();
     let mut rng = Rng(seed ^ (i as u64) << 32);
@@ -53,6 +55,7 @@ fn job(i: usize, seed: u64, alone: &mut Alone) -> Option<Tally> {
         rungs::each_rung(&mut t);
         rungs::any_s(&mut t, &mut rng);
         logs::any_logs(&mut t, &mut rng);
+        antennas::any_antennas(&mut t, &mut rng);
         roles::each_role(&mut t, &mut rng);
         segments::all_ticks(&mut t);
         segments::fair_runs(&mut t, &mut rng);

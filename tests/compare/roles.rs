@@ -5,7 +5,7 @@ use crate::faults::{any_bank, any_gate, singles_and_pairs};
 use crate::numbers::{any_lengths, any_levels, Rng};
 use crate::tally::Tally;
 use crate::wolfcloak::{act_as, role, TECHNICIAN};
-use crate::{logs, registers, segments};
+use crate::{antennas, logs, registers, segments};
 
 /// A keeper, a leader, a technician, and two that are nobody.
 const ROLES: [u16; 5] = [0, 1, 2, 3, 65535];
@@ -37,6 +37,7 @@ pub fn each_role(t: &mut Tally, rng: &mut Rng) {
                 singles_and_pairs(t, &l, rng, 2, &mut [0; 21]);
             }
             logs::in_a_role(t, rng);
+            antennas::in_a_role(t, rng);
             segments::in_a_role(t);
             registers::all_faults(t, n, rng);
         }

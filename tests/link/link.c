@@ -220,6 +220,30 @@ static void hop_log(void)
     expect("the position of a refusal", position, 2);
 }
 
+/* One hop of one channel on two antennas: the pair with the larger power, and the checks in their order. */
+static void two_antennas(void)
+{
+    static const uint8_t first[15] = {1, 0, 1, 5, 0, 0, 0, 0, 0, 0, 0, 0, 0, 0x80, 0x3f};
+    static const uint8_t second[15] = {1, 0, 1, 6, 0, 0, 0, 0, 0, 0, 0, 0, 0, 0, 0x40};
+    static const uint8_t other_n[2] = {9, 0};
+    uint8_t log[16];
+    size_t len = 77;
+
+    log[15] = 9;
+    expect("a first log that is cut", wolfcloak_log_combine(me, first, 14, other_n, 1, log, 0, &len), WOLFCLOAK_REFUSED_CUT);
+    expect("a second log that is cut", wolfcloak_log_combine(me, first, 15, other_n, 1, log, 0, &len), WOLFCLOAK_REFUSED_CUT);
+    expect("unequal n", wolfcloak_log_combine(me, first, 15, other_n, 2, log, 0, &len), WOLFCLOAK_REFUSED_UNLIKE);
+    expect("unequal numbers of hops", wolfcloak_log_combine(me, first, 15, second, 2, log, 0, &len), WOLFCLOAK_REFUSED_UNLIKE);
+    expect("too short for both", wolfcloak_log_combine(me, first, 15, second, 15, log, 14, &len), WOLFCLOAK_REFUSED_STORE_SIZE);
+    expect("the length of a refusal", len, 77);
+    expect("log_combine", wolfcloak_log_combine(me, first, 15, second, 15, log, 16, &len), WOLFCLOAK_OK);
+    expect("the length of both", len, 15);
+    expect("the larger power's pair", memcmp(log, second, 15), 0);
+    expect("the byte after both", log[15], 9);
+    expect("log_combine", wolfcloak_log_combine(me, second, 15, first, 15, log, 16, &len), WOLFCLOAK_OK);
+    expect("the larger power's pair, first", memcmp(log, second, 15), 0);
+}
+
 /* Nine channels, six registers: an update that carries the map, the flags, the masks, the wire; then each refusal. */
 static void registers(void)
 {
@@ -305,6 +329,7 @@ int main(void)
     window_rise();
     early_rise();
     hop_log();
+    two_antennas();
     ticks();
     registers();
     roles();

@@ -26,7 +26,7 @@ pub fn place<'a>(reader: LogReader<'a>) -> usize
 }
 
 // Where the reader stands after an answer: only a hop that was read moves it.
-fn place_after(answer: LogRead, at: usize) -> usize
+pub fn place_after(answer: LogRead, at: usize) -> usize
     ensures { λ r. ⌜ r ≡ placeAfter answer at ⌝ }
 {
     match answer {

@@ -1,0 +1,4 @@
+pub mod Taken
+pub mod Chosen
+pub mod Theorems
+pub mod Examples

@@ -1,0 +1,3 @@
+pub mod Choose
+pub mod Combined
+pub mod Claims

@@ -1,0 +1,4 @@
+pub mod Counts
+pub mod InStep
+pub mod Judges
+pub mod Answered
