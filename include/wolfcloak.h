@@ -39,13 +39,13 @@ extern "C" {
 #define WOLFCLOAK_REFUSED_UNSOUND 9    /* a store doesn't hold what these calls can leave in one */
 #define WOLFCLOAK_REFUSED_CUT 10       /* a log ends inside its header or a hop; a position below 2 or past the log */
 #define WOLFCLOAK_REFUSED_DAMAGED 11   /* a log has a set bit past n, or a pair that did not change */
+#define WOLFCLOAK_REFUSED_UNLIKE 13    /* two logs that differ in n or in their number of hops */
 #define WOLFCLOAK_REFUSED_SEGMENTS 14  /* a tick: count outside 1..8, a bit set past count, or a last served not below count */
 #define WOLFCLOAK_REFUSED_ADDRESS 15   /* a register's address past the map */
 #define WOLFCLOAK_REFUSED_RIGHT 16     /* a role above 2, or one that lacks the right to this call */
 
 /* Numbers of calls that are still to come; none of those below answers them. */
 #define WOLFCLOAK_REFUSED_SPAN 12      /* a worst floor of late over fewer than 1 or more than 600 slow hops */
-#define WOLFCLOAK_REFUSED_UNLIKE 13    /* two logs that differ in n or in their number of hops */
 
 /* Answers that are no refusals, with which nothing is written either. */
 #define WOLFCLOAK_END 100              /* the log has no further hop */
