@@ -35,20 +35,19 @@ extern "C" {
 #define WOLFCLOAK_REFUSED_HOP_SIZE 5   /* a hop or output slice isn't n long */
 #define WOLFCLOAK_REFUSED_GARBLED 6    /* a slow hop with a NaN dB in a block of two or more channels */
 #define WOLFCLOAK_REFUSED_CHANNEL 7    /* channel number n or more */
-#define WOLFCLOAK_REFUSED_MISMATCH 8   /* bank and gate differ in n */
+#define WOLFCLOAK_REFUSED_MISMATCH 8   /* stores lent together differ in n */
 #define WOLFCLOAK_REFUSED_UNSOUND 9    /* a store doesn't hold what these calls can leave in one */
 #define WOLFCLOAK_REFUSED_CUT 10       /* a log ends inside its header or a hop; a position below 2 or past the log */
 #define WOLFCLOAK_REFUSED_DAMAGED 11   /* a log has a set bit past n, or a pair that did not change */
+#define WOLFCLOAK_REFUSED_SPAN 12      /* making a store of the worst floor of late: w outside 1..600 */
 #define WOLFCLOAK_REFUSED_UNLIKE 13    /* two logs that differ in n or in their number of hops */
 #define WOLFCLOAK_REFUSED_SEGMENTS 14  /* a tick: count outside 1..8, a bit set past count, or a last served not below count */
 #define WOLFCLOAK_REFUSED_ADDRESS 15   /* a register's address past the map */
 #define WOLFCLOAK_REFUSED_RIGHT 16     /* a role above 2, or one that lacks the right to this call */
 
-/* Numbers of calls that are still to come; none of those below answers them. */
-#define WOLFCLOAK_REFUSED_SPAN 12      /* a worst floor of late over fewer than 1 or more than 600 slow hops */
-
 /* Answers that are no refusals, with which nothing is written either. */
 #define WOLFCLOAK_END 100              /* the log has no further hop */
+#define WOLFCLOAK_NONE_YET 101         /* the worst floor of late: no slow hop has carried the store yet */
 #define WOLFCLOAK_NONE_WAITING 102     /* a tick: no segment has a hop waiting */
 
 /*
@@ -56,12 +55,12 @@ extern "C" {
  * technician. Each may do what those before may.
  *
  *   keeper        reads: channel_floor_db, effective_floor_db, rise_floor_db, spectral_reference, floors, ring, smoothed_db, ema_rise,
- *                 map_read, map_wire; explain
+ *                 worst_floor, map_read, map_wire; explain
  *   leader        also writes masks and clears flags: map_write; and remakes a gate: gate_remake
- *   technician    everything else: bank_new, bank_update, bank_update_holding_reference, gate_new, gate_update, gate_hold, map_new,
- *                 gate_update_map, gate_hold_map, log_write, log_channels, log_read, log_combine, dispatch
+ *   technician    everything else: bank_new, bank_update, bank_update_holding_reference, worst_new, bank_update_worst, gate_new,
+ *                 gate_update, gate_hold, map_new, gate_update_map, gate_hold_map, log_write, log_channels, log_read, log_combine, dispatch
  *
- * So calls by keepers alone leave every store as it was, and calls by leaders alone change no bank and no log. A call that is stopped
+ * So calls by keepers alone leave every store as it was, and calls by leaders alone change no bank, no worst floor and no log. A call that is stopped
  * counts for nothing: it is no hop that was heard.
  */
 #define WOLFCLOAK_KEEPER 0
@@ -207,6 +206,47 @@ uint16_t wolfcloak_smoothed_db(uint16_t role, const uint16_t *gate, size_t gate_
 uint16_t wolfcloak_ema_rise(uint16_t role, const uint16_t *bank, size_t bank_len, const double *bank_f, size_t bank_f_len,
                             const uint16_t *gate, size_t gate_len, const double *gate_f, size_t gate_f_len,
                             size_t k, double *value);
+
+/* ---- the worst floor of late: how bad the noise has been ---- */
+
+/*
+ * A store of its own beside a bank keeps, for each channel, the effective floors after the last w slow hops, w from 1 to 600 (600 slow
+ * hops are 24 seconds). To lend it:
+ *   - make it once, by wolfcloak_worst_new, with the n of its bank, when the bank is made;
+ *   - from then on feed the bank by wolfcloak_bank_update_worst, which is lent both. A hop fed by the bank's other updates is heard by
+ *     the bank as ever, but this store does not see it;
+ *   - ask wolfcloak_worst_floor of a channel whenever it is wanted.
+ * It makes no difference to the bank. Its two stores belong together and to that bank: copy or keep all four at once.
+ */
+
+/* Its first store is always this many uint16_t. */
+#define WOLFCLOAK_WORST_LEN 4
+
+/* How many double the second takes, for n channels and the last w slow hops; 0 where making refuses n or w. */
+size_t wolfcloak_worst_f_len(size_t n, size_t w);
+
+/*
+ * Makes a fresh one in the two stores, whatever they held: worst has to be WOLFCLOAK_WORST_LEN long and worst_f
+ * wolfcloak_worst_f_len(n, w). Refuses with 1, then 12, then 2.
+ */
+uint16_t wolfcloak_worst_new(uint16_t role, uint16_t *worst, size_t worst_len, double *worst_f, size_t worst_f_len, size_t n, size_t w);
+
+/*
+ * The bank's update of one hop, held or not, that carries the store: on a slow hop each channel's effective floor, as it is after
+ * the hop, enters. Refuses with 2 or 9 for the bank's stores, then for these, then 8, then 5, then 6.
+ */
+uint16_t wolfcloak_bank_update_worst(uint16_t role, uint16_t *bank, size_t bank_len, double *bank_f, size_t bank_f_len,
+                                     uint16_t *worst, size_t worst_len, double *worst_f, size_t worst_f_len,
+                                     const double *power_db, size_t power_db_len, const float *power, size_t power_len,
+                                     bool hold_reference);
+
+/*
+ * The highest effective floor of channel k in dB over the last w slow hops that carried the store, or over those so far; before the
+ * first it answers WOLFCLOAK_NONE_YET. Refuses with 2 or 9 for the bank's stores, then for these, then 8, then 7.
+ */
+uint16_t wolfcloak_worst_floor(uint16_t role, const uint16_t *bank, size_t bank_len, const double *bank_f, size_t bank_f_len,
+                               const uint16_t *worst, size_t worst_len, const double *worst_f, size_t worst_f_len,
+                               size_t k, double *value);
 
 /* ---- registers for the main processor: flags of rises and drops in bytes, and one wire for attention ---- */
 

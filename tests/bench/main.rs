@@ -189,6 +189,40 @@ fn gate_rows(n: usize, rounds: usize) {
     println!("  {:<22} {beyond:9.2}      (gate update - soundness) / floor.rs; the aim is 1 for n = 512 (R-3)", "beyond the tests");
 }
 
+/// The wardens' store of the last 600 slow hops: hops that carry it beside hops that don't, once it is full; then readings.
+fn worst_rows(n: usize, rounds: usize) {
+    const SPAN: usize = 600;
+    let hops = hops(n, Feed::Noise);
+    let (mut u, mut f) = FloorBank::new(n).to_stores();
+    assert_eq!(wolfcloak::bank_new(&mut u, &mut f, n), 0);
+    let (mut plain_u, mut plain_f) = (u.clone(), f.clone());
+    let (mut w, mut g) = (vec![0; 4], vec![0.0; wolfcloak::worst_f_len(n, SPAN)]);
+    assert_eq!(wolfcloak::worst_new(&mut w, &mut g, n, SPAN), 0);
+    let [mut ordinary, mut slow, mut plain_ordinary, mut plain_slow]: [Vec<f64>; 4] = Default::default();
+    for hop in 0..(SPAN + rounds) * 15 {
+        let (db, power) = &hops[hop % hops.len()];
+        let carried = time(|| wolfcloak::bank_update_worst((&mut u, &mut f), (&mut w, &mut g), (db, power), false));
+        let plain = time(|| wolfcloak::bank_update(&mut plain_u, &mut plain_f, db, power, None));
+        if hop >= SPAN * 15 {
+            let is_slow = hop % 15 == 0;
+            if is_slow { &mut slow } else { &mut ordinary }.push(carried);
+            if is_slow { &mut plain_slow } else { &mut plain_ordinary }.push(plain);
+        }
+    }
+    assert!(u == plain_u && w[3] as usize == SPAN);
+    let mut value = 0.0;
+    let reading = median((0..2000).map(|i| time(|| wolfcloak::worst_floor((&u, &f), (&w, &g), i % n, &mut value))).collect());
+    let effective = median((0..2000).map(|i| time(|| wolfcloak::effective_floor_db(&u, &f, i % n, &mut value))).collect());
+    let mut all = || (0..n).for_each(|k| assert_eq!(wolfcloak::worst_floor((&u, &f), (&w, &g), k, &mut value), 0));
+    let every = median((0..15).map(|_| time(&mut all)).collect());
+    let [ordinary, slow, plain_ordinary, plain_slow] = [ordinary, slow, plain_ordinary, plain_slow].map(median);
+    println!("worst floor of late, n = {n}, W = {SPAN}");
+    println!("  {:<22} {ordinary:9.2} µs   not carried {plain_ordinary:9.2} µs", "ordinary hop, carried");
+    println!("  {:<22} {slow:9.2} µs   not carried {plain_slow:9.2} µs", "slow hop, carried");
+    println!("  {:<22} {reading:9.2} µs   effective floor {effective:9.2} µs", "one reading");
+    println!("  {:<22} {:9.2} ms   once a minute: {:.4} of a percent of the time", "all channels", every / 1e3, every / 60e6 * 100.0);
+}
+
 fn main() {
     bank_rows(32, 2000);
     silence_rows(32, 2000);
@@ -204,4 +238,6 @@ fn main() {
             antennas::row(n, kept);
         }
     }
+    worst_rows(32, 600);
+    worst_rows(512, 200);
 }

@@ -20,13 +20,15 @@ struct Step {
     db: Vec<f64>,
     power: Vec<f32>,
     hold: Option<bool>,
+    carries: bool, // a bank update carries the store of the worst floor
     marks: usize, // how long rise and drop are
 }
 
 impl Step {
     fn any(rng: &mut Rng, n: usize, kind: Kind, feed: Feed, hop: usize) -> Step {
         let (db, power) = (0..n).map(|k| sample(rng, feed, hop, k)).unzip();
-        let mut s = Step { kind, db, power, hold: rng.pick(&[None, Some(false), Some(true)]), marks: n };
+        let (hold, carries) = (rng.pick(&[None, Some(false), Some(true)]), rng.one_in(2));
+        let mut s = Step { kind, db, power, hold, carries, marks: n };
         match rng.below(60) {
             0 => drop(s.db.pop()),
             1 => s.power.push(1.0),
@@ -46,6 +48,8 @@ struct Set {
     f: Vec<f64>,
     gate: Vec<u16>,
     gate_f: Vec<f64>,
+    worst: Vec<u16>,
+    worst_f: Vec<f64>,
     rise: Vec<u8>,
     banks: usize,
     gates: usize,
@@ -57,13 +61,25 @@ impl Set {
         let (mut gate, mut gate_f) = Gate::made(n, levels, lengths).to_stores();
         assert_eq!(lib::bank_new(&mut u, &mut f, n), 0);
         assert_eq!(lib::gate_new(&mut gate, &mut gate_f, n, levels, lengths), 0);
-        Set { u, f, gate, gate_f, rise: vec![0; n], banks: 0, gates: 0 }
+        Set { u, f, gate, gate_f, worst: vec![0; 4], worst_f: vec![], rise: vec![0; n], banks: 0, gates: 0 }.keeping(1)
+    }
+
+    /// With a fresh store of the worst floor of late over so many slow hops.
+    fn keeping(mut self, span: usize) -> Set {
+        let n = self.rise.len();
+        self.worst_f = vec![0.0; lib::worst_f_len(n, span)];
+        assert_eq!(lib::worst_new(&mut self.worst, &mut self.worst_f, n, span), 0);
+        self
     }
 
     fn call(&mut self, s: &Step) -> u16 {
         let (mut rise, mut drop) = (vec![9; s.marks], vec![9; s.marks]);
         let (bank, marks) = ((&self.u[..], &self.f[..]), (&mut rise[..], &mut drop[..]));
         let answer = match s.kind {
+            Kind::Bank if s.carries => {
+                let store = (&mut self.worst[..], &mut self.worst_f[..]);
+                lib::bank_update_worst((&mut self.u, &mut self.f), store, (&s.db, &s.power), s.hold == Some(true))
+            }
             Kind::Bank => lib::bank_update(&mut self.u, &mut self.f, &s.db, &s.power, s.hold),
             Kind::Gate => lib::gate_update(bank, (&mut self.gate, &mut self.gate_f), (&s.db, &s.power), marks),
             Kind::Hold => lib::gate_hold(bank, (&self.gate, &mut self.gate_f), marks),
@@ -178,8 +194,8 @@ const ANY: [Feed; 5] = [Feed::Silence, Feed::Any, Feed::Numbers, Feed::Noise, Fe
 pub fn any_histories(t: &mut Tally, setting: &Setting, rng: &mut Rng) {
     let &(n, lengths, early, a, b) = setting;
     let levels = [rng.pick(&[0, 16, 40]), 16, early];
-    let mut one = Set::new(n, levels, lengths);
-    let mut other = one.clone();
+    let mut one = Set::new(n, levels, lengths).keeping(1 + rng.below(600));
+    let mut other = one.clone().keeping(1 + rng.below(600));
     one.hear(rng, &[Feed::Noise, Feed::Any, Feed::Noise], a[0], a[1]);
     other.hear(rng, &ANY, b[0], b[1]);
     let mut pair = Pair::new(one, other);
@@ -213,7 +229,7 @@ pub fn any_histories(t: &mut Tally, setting: &Setting, rng: &mut Rng) {
 /// Two channels, one length of 375 and a further list that has no call too many: floors differ until its last bank update, and
 /// rises until its 1,499th gate update, when the windows are summed afresh.
 pub fn no_call_too_many(t: &mut Tally) {
-    let step = |kind, db: f64, power: f32| Step { kind, db: vec![db; 2], power: vec![power; 2], hold: None, marks: 2 };
+    let step = |kind, db: f64, power: f32| Step { kind, db: vec![db; 2], power: vec![power; 2], hold: None, carries: false, marks: 2 };
     let mut one = Set::new(2, [0, 0, ABSENT], &[375]);
     let mut other = one.clone();
     let what = format_args!("history, no call too many");

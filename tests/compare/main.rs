@@ -30,6 +30,7 @@ mod sample;
 mod segments;
 mod tally;
 mod wolfcloak;
+mod worst;
 
 use history::SETTINGS;
 use numbers::Rng;
@@ -41,12 +42,13 @@ use tally::Tally;
 const SIZES: [usize; 13] = [1, 2, 3, 4, 5, 6, 31, 32, 33, 64, 65, 511, 512];
 
 /// Job i: the making of banks and gates, the ladder, the hop logs, two antennas, the roles, the dispatcher and the registers, two histories, two
-/// lists of which one is louder, arbitrary stores of some size, or a run of some size and plan.
+/// lists of which one is louder, the worst floor of late over some span, arbitrary stores of some size, or a run of some size and plan.
 fn job(i: usize, seed: u64, alone: &mut Alone) -> Option<Tally> {
     let mut t = Tally::default();
     let mut rng = Rng(seed ^ (i as u64) << 32);
     let histories = SETTINGS.len();
     let lists = histories + louder::PAIRS;
+    let spans = lists + worst::SPANS.len();
     if i == 0 {
         faults::any_n(&mut t, &mut rng);
         faults::any_settings(&mut t, &mut rng);
@@ -65,17 +67,21 @@ fn job(i: usize, seed: u64, alone: &mut Alone) -> Option<Tally> {
             (0..3000 / (n + 50)).for_each(|_| registers::any_list(&mut t, n, &mut rng));
             registers::all_faults(&mut t, n, &mut rng);
         }
+        worst::refusals(&mut t);
+        worst::any_rings(&mut t, &mut rng);
     } else if i <= histories {
         history::any_histories(&mut t, &SETTINGS[i - 1], &mut rng);
     } else if i <= lists {
         louder::any_pair(&mut t, i - histories - 1, &mut rng);
-    } else if i <= lists + SIZES.len() {
-        let n = SIZES[i - lists - 1];
+    } else if i <= spans {
+        worst::runs(&mut t, worst::SPANS[i - lists - 1], &mut rng);
+    } else if i <= spans + SIZES.len() {
+        let n = SIZES[i - spans - 1];
         (0..6000 / (n + 10)).for_each(|_| faults::any_sound_store(&mut t, n, &mut rng));
         (0..6000 / (n + 10)).for_each(|_| pairs::any_pairs(&mut t, n, &mut rng));
         (0..6000 / (n + 10)).for_each(|_| explain::any_sides(&mut t, n, &mut rng));
     } else {
-        let run = i - lists - SIZES.len() - 1;
+        let run = i - spans - SIZES.len() - 1;
         let n = *SIZES.get(run / PLANS.len())?;
         runs::run(&mut t, n, &PLANS[run % PLANS.len()], LENGTHS[run % LENGTHS.len()], &mut rng, alone);
     }

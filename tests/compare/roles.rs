@@ -5,7 +5,7 @@ use crate::faults::{any_bank, any_gate, singles_and_pairs};
 use crate::numbers::{any_lengths, any_levels, Rng};
 use crate::tally::Tally;
 use crate::wolfcloak::{act_as, role, TECHNICIAN};
-use crate::{antennas, logs, registers, segments};
+use crate::{antennas, logs, registers, segments, worst};
 
 /// A keeper, a leader, a technician, and two that are nobody.
 const ROLES: [u16; 5] = [0, 1, 2, 3, 65535];
@@ -40,6 +40,7 @@ pub fn each_role(t: &mut Tally, rng: &mut Rng) {
             antennas::in_a_role(t, rng);
             segments::in_a_role(t);
             registers::all_faults(t, n, rng);
+            worst::in_a_role(t);
         }
         act_as(TECHNICIAN);
     }

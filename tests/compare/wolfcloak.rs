@@ -69,6 +69,16 @@ extern "C" {
         role: u16, b: *const u16, bl: usize, f: *const f64, fl: usize, g: *const u16, gl: usize, h: *const f64, hl: usize,
         k: usize, value: *mut f64,
     ) -> u16;
+    fn wolfcloak_worst_f_len(n: usize, w: usize) -> usize;
+    fn wolfcloak_worst_new(role: u16, w: *mut u16, wl: usize, g: *mut f64, gl: usize, n: usize, span: usize) -> u16;
+    fn wolfcloak_bank_update_worst(
+        role: u16, b: *mut u16, bl: usize, f: *mut f64, fl: usize, w: *mut u16, wl: usize, g: *mut f64, gl: usize,
+        power_db: *const f64, power_db_len: usize, power: *const f32, power_len: usize, hold_reference: bool,
+    ) -> u16;
+    fn wolfcloak_worst_floor(
+        role: u16, b: *const u16, bl: usize, f: *const f64, fl: usize, w: *const u16, wl: usize, g: *const f64, gl: usize,
+        k: usize, value: *mut f64,
+    ) -> u16;
     fn wolfcloak_dispatch(role: u16, count: usize, waiting: u8, last: *mut usize) -> u16;
 }
 
@@ -175,6 +185,36 @@ pub fn ema_rise(bank: (&[u16], &[f64]), gate: (&[u16], &[f64]), k: usize, value:
         wolfcloak_ema_rise(
             role(), bank.0.as_ptr(), bank.0.len(), bank.1.as_ptr(), bank.1.len(),
             gate.0.as_ptr(), gate.0.len(), gate.1.as_ptr(), gate.1.len(), k, value,
+        )
+    }
+}
+
+pub fn worst_f_len(n: usize, span: usize) -> usize {
+    unsafe { wolfcloak_worst_f_len(n, span) }
+}
+
+pub fn worst_new(w: &mut [u16], g: &mut [f64], n: usize, span: usize) -> u16 {
+    unsafe { wolfcloak_worst_new(role(), w.as_mut_ptr(), w.len(), g.as_mut_ptr(), g.len(), n, span) }
+}
+
+/// `worst` is the two stores of R-6, lent beside the bank's.
+pub fn bank_update_worst(
+    bank: (&mut [u16], &mut [f64]), worst: (&mut [u16], &mut [f64]), hop: (&[f64], &[f32]), hold: bool,
+) -> u16 {
+    unsafe {
+        wolfcloak_bank_update_worst(
+            role(), bank.0.as_mut_ptr(), bank.0.len(), bank.1.as_mut_ptr(), bank.1.len(),
+            worst.0.as_mut_ptr(), worst.0.len(), worst.1.as_mut_ptr(), worst.1.len(),
+            hop.0.as_ptr(), hop.0.len(), hop.1.as_ptr(), hop.1.len(), hold,
+        )
+    }
+}
+
+pub fn worst_floor(bank: (&[u16], &[f64]), worst: (&[u16], &[f64]), k: usize, value: &mut f64) -> u16 {
+    unsafe {
+        wolfcloak_worst_floor(
+            role(), bank.0.as_ptr(), bank.0.len(), bank.1.as_ptr(), bank.1.len(),
+            worst.0.as_ptr(), worst.0.len(), worst.1.as_ptr(), worst.1.len(), k, value,
         )
     }
 }

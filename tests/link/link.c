@@ -220,6 +220,39 @@ static void hop_log(void)
     expect("the position of a refusal", position, 2);
 }
 
+/* The last 2 slow hops of one channel: none yet, the first floor, and the highest of two as the noise falls away. */
+static void worst_of_late(void)
+{
+    size_t len = wolfcloak_bank_len(1), f_len = wolfcloak_bank_f_len(1);
+    uint16_t *one = malloc(len * sizeof *one), worst[WOLFCLOAK_WORST_LEN];
+    double *one_f = malloc(f_len * sizeof *one_f), worst_f[2], db = -60, value = 7;
+    float power = 0;
+
+    if (!one || !one_f)
+        exit(1);
+    expect("worst_f_len", wolfcloak_worst_f_len(1, 2), 2);
+    expect("worst_f_len of a span too long", wolfcloak_worst_f_len(1, 601), 0);
+    expect("a span too long", wolfcloak_worst_new(me, worst, 4, worst_f, 2, 1, 601), WOLFCLOAK_REFUSED_SPAN);
+    expect("worst_new", wolfcloak_worst_new(me, worst, 4, worst_f, 2, 1, 2), WOLFCLOAK_OK);
+    expect("bank_new", wolfcloak_bank_new(me, one, len, one_f, f_len, 1), WOLFCLOAK_OK);
+    expect("none yet", wolfcloak_worst_floor(me, one, len, one_f, f_len, worst, 4, worst_f, 2, 0, &value), WOLFCLOAK_NONE_YET);
+    expect("a value that none yet leaves", value, 7);
+    for (int hop = 0; hop < 16; hop++) {
+        expect("bank_update_worst",
+               wolfcloak_bank_update_worst(me, one, len, one_f, f_len, worst, 4, worst_f, 2, &db, 1, &power, 1, false), WOLFCLOAK_OK);
+        expect("worst_floor", wolfcloak_worst_floor(me, one, len, one_f, f_len, worst, 4, worst_f, 2, 0, &value), WOLFCLOAK_OK);
+        expect("the worst floor of late", value, -59.75);
+        db = -100;
+    }
+    expect("effective_floor_db", wolfcloak_effective_floor_db(me, one, len, one_f, f_len, 0, &value), WOLFCLOAK_OK);
+    expect("an effective floor that has fallen", value < -59.75, 1);
+    expect("a channel too many", wolfcloak_worst_floor(me, one, len, one_f, f_len, worst, 4, worst_f, 2, 1, &value), WOLFCLOAK_REFUSED_CHANNEL);
+    expect("a bank of another n", wolfcloak_worst_floor(me, bank, wolfcloak_bank_len(2), bank_f, wolfcloak_bank_f_len(2), worst, 4, worst_f, 2,
+                                                        0, &value), WOLFCLOAK_REFUSED_MISMATCH);
+    free(one);
+    free(one_f);
+}
+
 /* One hop of one channel on two antennas: the pair with the larger power, and the checks in their order. */
 static void two_antennas(void)
 {
@@ -330,6 +363,7 @@ int main(void)
     early_rise();
     hop_log();
     two_antennas();
+    worst_of_late();
     ticks();
     registers();
     roles();

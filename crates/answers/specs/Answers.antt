@@ -9,6 +9,8 @@ use Rattle.model.specs.Readings.{number, valueOr, floorsNumber, floorsOr, ringS
 use Rattle.model.specs.declared.Reading.{Reading}
 use Rattle.model.specs.declared.Floors.{Floors}
 use Rattle.model.specs.declared.FloorsReading.{FloorsReading}
+use Rattle.model.specs.declared.WorstReading.{WorstReading}
+use Rattle.model.specs.declared.WorstReading.the-variants as Y
 
 -- the answer, and what the value becomes that was v
 abbrev pub answered : Float → Reading → ℕ × Float
@@ -26,3 +28,17 @@ unfoldable pub ringAnswered : List ℕ → List Float → ℕ → ℕ → ℕ �
 ringAnswered u f k start len =
     let r = readRefusal u f k in
     (r, cond (eqb r 0) (ringStart u f k) start, cond (eqb r 0) (ringLength u f k) len)
+
+-- the worst floor of late: 101 before the first slow hop
+abbrev pub worstNumber : WorstReading → ℕ
+worstNumber (Y.Value x) = 0
+worstNumber Y.NoneYet = 101
+worstNumber (Y.Refused r) = r
+
+abbrev pub worstOr : Float → WorstReading → Float
+worstOr d (Y.Value x) = x
+worstOr d Y.NoneYet = d
+worstOr d (Y.Refused r) = d
+
+abbrev pub worstAnswered : Float → WorstReading → ℕ × Float
+worstAnswered v x = (worstNumber x, worstOr v x)

@@ -2,7 +2,7 @@
 pub mod explained;
 
 ghost use mathlib.Core.Path.{_≡_};
-ghost use Rattle.answers.specs.Answers.{answered, floorsAnswered, ringAnswered};
+ghost use Rattle.answers.specs.Answers.{answered, floorsAnswered, ringAnswered, worstAnswered};
 use model::layout::RING_LEN;
 
 // A reading's number, its value written only if it has one.
@@ -59,4 +59,22 @@ pub fn ring_answer(
     *start = channel_readings::ring_start(bank, k);
     *len = RING_LEN;
     0
+}
+
+// The worst floor of late: 101 is "none yet".
+pub fn worst_answer(reading: model::WorstReading, value: &mut f64) -> u16
+    ensures { λ r. ⌜ (r, now (value .exit)) ≡ worstAnswered (now (value .entry)) reading ⌝ }
+{
+    match reading {
+        model::WorstReading::Value(x) => {
+            *value = x;
+            return 0;
+        }
+        model::WorstReading::NoneYet => {
+            return 101;
+        }
+        model::WorstReading::Refused(no) => {
+            return no;
+        }
+    }
 }

@@ -6,7 +6,7 @@ use lib.IntN.{ℤ}
 use lib.Ieee.{Float}
 use borrow.Author.Tests.{ne-eqb}
 use Rattle.model.specs.GateCalls.{gateRefusal}
-use Rattle.gate_remake.specs.Remake.{remakeRefusal, gateRemake}
+use Rattle.model.specs.Remake.{remakeRefusal, gateRemake}
 
 pub not-remade : (u : List ℕ) (f : List Float) (on off early : ℤ) (r : ℕ) → r ≡ gateRefusal u f → (r ≡ 0 → ⊥) → (r, u, f) ≡ gateRemake u f on off early
 unfolding gateRemake remakeRefusal

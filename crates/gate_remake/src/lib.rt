@@ -5,7 +5,7 @@ ghost use lib.ListN.{length, getD};
 ghost use Rattle.laws.specs.Lists.{tab};
 ghost use Rattle.model.specs.GateStores.{mAt};
 ghost use Rattle.model.specs.GateCalls.{gateRefusal, gateNew};
-ghost use Rattle.gate_remake.specs.Remake.{lengthsIn, gateRemake};
+ghost use Rattle.model.specs.Remake.{lengthsIn, gateRemake};
 
 // As many lengths of a gate as there is room for, in the order of the store.
 fn put_lengths(gate: &[u16], lengths: &mut [u16])

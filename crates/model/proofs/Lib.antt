@@ -15,6 +15,8 @@ pub mod FreshBanks
 pub mod DeadBranches
 pub mod SameAnswers
 pub mod Reach
+pub mod WorstStores
+pub mod WorstTurns
 pub mod WindowStores
 pub mod GateStores
 pub mod GoodGates
@@ -30,9 +32,12 @@ pub mod Quartiles
 pub mod SettledFloors
 pub mod Windows
 pub mod Rises
+pub mod Carrying
+pub mod Remake
 pub mod Calls
 pub mod Made
 pub mod Demand3
+pub mod Season
 pub mod Sets
 pub mod Remembered
 pub mod Segments
@@ -41,3 +46,4 @@ pub mod LouderRings
 pub mod Louder
 pub mod LouderCases
 pub mod MapSets
+pub mod WorstOfLate

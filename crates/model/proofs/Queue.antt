@@ -16,28 +16,28 @@ use Rattle.laws.proofs.Counting.{occ-append}
 
 -- ---- the newest j entries of a queue, and the others
 
-abbrev pub newest : ℕ → List ℕ → List ℕ
+abbrev pub newest : {A : Type 0} → ℕ → List A → List A
 newest j w = drop (length w - j) w
 
 abbrev pub older : ℕ → List ℕ → List ℕ
 older j w = take (length w - j) w
 
-pub newest-all : (j : ℕ) (w : List ℕ) → length w ≤ j → newest j w ≡ w
+pub newest-all : {A : Type 0} (j : ℕ) (w : List A) → length w ≤ j → newest j w ≡ w
 newest-all j w h = ap (λ (k : ℕ). drop k w) (let e : length w - j ≡ 0 = omega arith in e)
 
-pub newest-snoc : (j : ℕ) (w : List ℕ) (b : ℕ) → newest (suc j) (w ++ (b ∷ [])) ≡ newest j w ++ (b ∷ [])
+pub newest-snoc : {A : Type 0} (j : ℕ) (w : List A) (b : A) → newest (suc j) (w ++ (b ∷ [])) ≡ newest j w ++ (b ∷ [])
 newest-snoc j w b =
     ap (λ (k : ℕ). drop k (w ++ (b ∷ []))) (let e : length (w ++ (b ∷ [])) - suc j ≡ length w - j = omega (arith, length-append w (b ∷ [])) in e)
     ∙ drop-append-le (length w - j) w (b ∷ []) (omega arith)
 
-pub newest-newest : (a b : ℕ) (w : List ℕ) → newest a (newest b w) ≡ newest (min a b) w
+pub newest-newest : {A : Type 0} (a b : ℕ) (w : List A) → newest a (newest b w) ≡ newest (min a b) w
 newest-newest a b w =
     drop-drop (length (newest b w) - a) (length w - b) w
     ∙ ap (λ (k : ℕ). drop k w)
     (let e : (length w - b) + (length (newest b w) - a) ≡ length w - min a b = omega (arith, length-drop (length w - b) w) in e)
 
 -- a window of R: the newest j of it after one more entry hang on the newest j before it
-pub newest-step : (R j : ℕ) (w : List ℕ) (b : ℕ) → newest (suc j) (newest R (w ++ (b ∷ []))) ≡ newest R (newest j w ++ (b ∷ []))
+pub newest-step : {A : Type 0} (R j : ℕ) (w : List A) (b : A) → newest (suc j) (newest R (w ++ (b ∷ []))) ≡ newest R (newest j w ++ (b ∷ []))
 newest-step R j w b =
     newest-newest (suc j) R (w ++ (b ∷ []))
     ∙ ap (λ (k : ℕ). newest k (w ++ (b ∷ []))) (let e : min (suc j) R ≡ min R (suc j) = omega arith in e)
@@ -46,16 +46,16 @@ newest-step R j w b =
 
 -- ---- a ring: its next place n, f places filled, oldest entry first
 
-abbrev pub win : ℕ → ℕ → List ℕ → List ℕ
+abbrev pub win : {A : Type 0} → ℕ → ℕ → List A → List A
 win n f r = drop n (take f r) ++ take n r
 
-pub win-start : (n : ℕ) (r : List ℕ) → n ≤ length r → win n n r ≡ take n r
+pub win-start : {A : Type 0} (n : ℕ) (r : List A) → n ≤ length r → win n n r ≡ take n r
 win-start n r h = rw (drop-of-length-le (take n r) {i = n} (omega (arith, length-take n r)))
 
-pub win-zero : (f : ℕ) (r : List ℕ) → win 0 f r ≡ take f r
+pub win-zero : {A : Type 0} (f : ℕ) (r : List A) → win 0 f r ≡ take f r
 win-zero f r = append-nil (take f r)
 
-pub length-win : (n f : ℕ) (r : List ℕ) → n ≤ f → f ≤ length r → length (win n f r) ≡ f
+pub length-win : {A : Type 0} (n f : ℕ) (r : List A) → n ≤ f → f ≤ length r → length (win n f r) ≡ f
 length-win n f r h k =
     omega (arith, length-append (drop n (take f r)) (take n r), length-drop n (take f r), length-take f r, length-take n r)
 
@@ -66,7 +66,7 @@ occ-win x n f r h k =
     omega
     (arith, occ-append x (drop n (take f r)) (take n r), ap (occ x) t, occ-append x (take n (take f r)) (drop n (take f r)), ap (occ x) (take-append-drop n (take f r)))
 
-module _ (R n : ℕ) (r : List ℕ) (len : length r ≡ R) (lt : n < R) (b : ℕ) where
+module _ {A : Type 0} (R n : ℕ) (r : List A) (len : length r ≡ R) (lt : n < R) (b : A) where
   -- the next place: the one after, or the first
   next-on : suc n < R → (n + 1) % R ≡ suc n
   next-on h = rw add-one (mod-eq-of-lt h)
@@ -89,12 +89,12 @@ module _ (R n : ℕ) (r : List ℕ) (len : length r ≡ R) (lt : n < R) (b : ℕ
       go (no h) = rw (next-end (omega arith), win-zero (suc n) (set r n b), before) front
 
   -- a push into a full ring: the oldest entry goes
-  pub kept : List ℕ
+  pub kept : List A
   kept = drop (suc n) r ++ take n r
 
-  pub win-full : win n R r ≡ getD r n 0 ∷ kept
+  pub win-full : (d : A) → win n R r ≡ getD r n d ∷ kept
   unfolding kept
-  win-full = rw (take-all R r (omega arith), drop-cons r n 0 (omega arith))
+  win-full d = rw (take-all R r (omega arith), drop-cons r n d (omega arith))
 
   pub win-pushed : win ((n + 1) % R) R (set r n b) ≡ kept ++ (b ∷ [])
   unfolding kept

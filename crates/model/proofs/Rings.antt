@@ -181,7 +181,7 @@ module _ (R K : ℕ) where
       X = kept R (c .next) (c .ring) (g .ring-length) (g .next-below) b
 
       before : W c ≡ oldest c ∷ X
-      before = ap (λ (f : ℕ). win (c .next) f (c .ring)) p ∙ win-full R (c .next) (c .ring) (g .ring-length) (g .next-below) b
+      before = ap (λ (f : ℕ). win (c .next) f (c .ring)) p ∙ win-full R (c .next) (c .ring) (g .ring-length) (g .next-below) b 0
 
       low-length : length (uncounted (c .counts) (oldest c)) ≡ K
       low-length = length-set (c .counts) (oldest c) (getD (c .counts) (oldest c) 0 - 1) ∙ g .counts-length

@@ -1,7 +1,7 @@
 -- Demand 3, stated: "Nobody who can choose what a set heard earlier can change its floors afterwards, nor its rises without early rise."
 -- The words in quotes are the customer's and document 01's. The proof is `demand-3` in proofs/Demand3.antt.
 use mathlib.Core.Path.{_≡_}
-use mathlib.Core.Bool.{Bool, true, cond}
+use mathlib.Core.Bool.{Bool, true, false, cond}
 use mathlib.Core.List.{List, [], _∷_, _++_, map}
 use Prim.Native.Nat.{ℕ, zero, suc, _*_, _%_, _≤_, _<_}
 use lib.Dec.{eqb}
@@ -13,42 +13,97 @@ use Rattle.model.specs.Layout.{histMin, decimationHops, settlingHops}
 use Rattle.model.specs.Bank.{FloorBank, Hop, blocks, block, median}
 use Rattle.model.specs.Readings.{rawAt, effectiveAt, riseAt}
 use Rattle.model.specs.Stores.{bankOf}
-use Rattle.model.specs.Calls.{bankNew, bankUpdate}
+use Rattle.model.specs.Calls.{bankNew}
 use Rattle.model.specs.Gate.{among}
 use Rattle.model.specs.GateCalls.{GateHop, absent, gateNew}
 use Rattle.model.specs.MapCalls.{mapNew, mapWrite, gateUpdateIf, gateHoldIf}
+use Rattle.model.specs.WorstCalls.{worstNew, updateIf}
+use Rattle.roles.specs.Rights.{Exported, bank-update, bank-update-worst, gate-update, gate-update-map, gate-hold, gate-hold-map, map-write, asRole}
 
 -- ---- calls
 
 -- "bank updates, gate updates and holds, refused ones included": slices of any lengths. The two lists of a gate update and of a hold are what
--- its output slices, rise and drop, held before. R-12: they carry the map (true) or don't; and writes to the map, of a value at an address
-pub data Call : Type 0 where
-  bank : Hop → Call
-  gate : Bool → GateHop → List ℕ → List ℕ → Call
-  hold : Bool → List ℕ → List ℕ → Call
-  write : ℕ → ℕ → Call
+-- its output slices, rise and drop, held before. R-12: they carry the map (true) or don't; and writes to the map, of a value at an address. R-6: a
+-- bank update carries the store of the worst floor of late (true) or doesn't
+pub data Asked : Type 0 where
+  bank : Bool → Hop → Asked
+  gate : Bool → GateHop → List ℕ → List ℕ → Asked
+  hold : Bool → List ℕ → List ℕ → Asked
+  write : ℕ → ℕ → Asked
 
--- the lent stores: the bank's and the gate's, with the gate's pairs (R-3), which gate updates and holds change; beside the gate its map (R-12),
--- which the calls that carry it change, and writes to it
+-- R-14: a call is asked for by someone, in a role
+pub record Call : Type 0 where
+  pub role : ℕ
+  pub asked : Asked
+
+abbrev pub askedBy : ℕ → Asked → Call
+askedBy role a = record { role = role; asked = a }
+
+-- a call's arguments "apart from the lent stores and what the outputs held before"
+pub data AskedWith : Type 0 where
+  bank : Bool → Hop → AskedWith
+  gate : Bool → GateHop → ℕ → ℕ → AskedWith
+  hold : Bool → ℕ → ℕ → AskedWith
+  write : ℕ → ℕ → AskedWith
+
+abbrev pub with : Asked → AskedWith
+with (bank c h) = bank c h
+with (gate c h rise drop) = gate c h (length rise) (length drop)
+with (hold c rise drop) = hold c (length rise) (length drop)
+with (write i v) = write i v
+
+-- .. and its role
+pub record Arguments : Type 0 where
+  pub role : ℕ
+  pub asked : AskedWith
+
+abbrev pub arguments : Call → Arguments
+arguments c = record { role = c .role; asked = with (c .asked) }
+
+-- what it is exported as: an update has the same right, however its power comes and whatever it holds
+abbrev pub exported : AskedWith → Exported
+exported (bank true h) = bank-update-worst
+exported (bank false h) = bank-update
+exported (gate true h rise drop) = gate-update-map
+exported (gate false h rise drop) = gate-update
+exported (hold true rise drop) = gate-hold-map
+exported (hold false rise drop) = gate-hold
+exported (write i v) = map-write
+
+-- "a call stopped for lack of a right": with 16, and everything as it was
+abbrev pub unlessStopped : {A : Type 0} → Call → (ℕ → A) → A → A
+unlessStopped c kept done = asRole (exported (with (c .asked))) (c .role) kept done
+
+-- the lent stores: the bank's and the gate's, with the gate's pairs (R-3), which gate updates and holds change; beside the bank those of the
+-- worst floor of late (R-6), which the updates that carry them change; beside the gate its map (R-12), which the calls that carry it change, and
+-- writes to it
 pub record Stores : Type 0 where
   pub bu : List ℕ
   pub bf : List Float
   pub gu : List ℕ
   pub gf : List Float
+  pub wu : List ℕ
+  pub wf : List Float
   pub map : List ℕ
 
--- what a call answers, 0 or its refusal, and the stores that it leaves
-unfoldable pub step : Stores → Call → ℕ × Stores
-step s (bank h) = let a = bankUpdate (s .bu) (s .bf) h in (a .0, record { bu = a .1; bf = a .2; gu = s .gu; gf = s .gf; map = s .map })
-step s (gate c h rise drop) =
+-- what is asked for answers, 0 or its refusal, and the stores that it leaves
+unfoldable pub does : Stores → Asked → ℕ × Stores
+does s (bank c h) =
+    let a = updateIf c (s .bu) (s .bf) (s .wu) (s .wf) h in
+    (a .0, record { bu = a .1; bf = a .2; gu = s .gu; gf = s .gf; wu = a .3; wf = a .4; map = s .map })
+does s (gate c h rise drop) =
     let a = gateUpdateIf c (s .bu) (s .bf) (s .gu) (s .gf) (s .map) h rise drop in
-    (a .0, record { bu = s .bu; bf = s .bf; gu = a .1; gf = a .2; map = a .3 })
-step s (hold c rise drop) =
+    (a .0, record { bu = s .bu; bf = s .bf; gu = a .1; gf = a .2; wu = s .wu; wf = s .wf; map = a .3 })
+does s (hold c rise drop) =
     let a = gateHoldIf c (s .bu) (s .bf) (s .gu) (s .gf) (s .map) rise drop in
-    (a .0, record { bu = s .bu; bf = s .bf; gu = s .gu; gf = a .1; map = a .2 })
-step s (write i v) =
+    (a .0, record { bu = s .bu; bf = s .bf; gu = s .gu; gf = a .1; wu = s .wu; wf = s .wf; map = a .2 })
+does s (write i v) =
     let a = mapWrite (s .gu) (s .gf) (s .map) i v in
-    (a .0, record { bu = s .bu; bf = s .bf; gu = s .gu; gf = s .gf; map = a .1 })
+    (a .0, record { bu = s .bu; bf = s .bf; gu = s .gu; gf = s .gf; wu = s .wu; wf = s .wf; map = a .1 })
+
+-- .. and a call: one that is stopped "doesn't count as accepted in any guarantee"
+unfoldable pub step : Stores → Call → ℕ × Stores
+step s c = unlessStopped c (λ r. (r, s)) (does s (c .asked))
 
 abbrev pub answer : Stores → Call → ℕ
 answer s c = step s c .0
@@ -56,25 +111,22 @@ answer s c = step s c .0
 abbrev pub left : Stores → Call → Stores
 left s c = step s c .1
 
--- what the output slice rise holds after a gate update or a hold
+-- what the output slices, rise and drop, held before
+abbrev pub marksBefore : Asked → List ℕ × List ℕ
+marksBefore (bank c h) = ([], [])
+marksBefore (gate c h rise drop) = (rise, drop)
+marksBefore (hold c rise drop) = (rise, drop)
+marksBefore (write i v) = ([], [])
+
+-- what rise holds after a gate update or a hold
+unfoldable pub risesDone : Stores → Asked → List ℕ
+risesDone s (bank c h) = []
+risesDone s (gate c h rise drop) = gateUpdateIf c (s .bu) (s .bf) (s .gu) (s .gf) (s .map) h rise drop .4
+risesDone s (hold c rise drop) = gateHoldIf c (s .bu) (s .bf) (s .gu) (s .gf) (s .map) rise drop .3
+risesDone s (write i v) = []
+
 unfoldable pub risesOf : Stores → Call → List ℕ
-risesOf s (bank h) = []
-risesOf s (gate c h rise drop) = gateUpdateIf c (s .bu) (s .bf) (s .gu) (s .gf) (s .map) h rise drop .4
-risesOf s (hold c rise drop) = gateHoldIf c (s .bu) (s .bf) (s .gu) (s .gf) (s .map) rise drop .3
-risesOf s (write i v) = []
-
--- a call's arguments "apart from the lent stores and what the outputs held before"
-pub data Arguments : Type 0 where
-  bank : Hop → Arguments
-  gate : Bool → GateHop → ℕ → ℕ → Arguments
-  hold : Bool → ℕ → ℕ → Arguments
-  write : ℕ → ℕ → Arguments
-
-abbrev pub arguments : Call → Arguments
-arguments (bank h) = bank h
-arguments (gate c h rise drop) = gate c h (length rise) (length drop)
-arguments (hold c rise drop) = hold c (length rise) (length drop)
-arguments (write i v) = write i v
+risesOf s c = unlessStopped c (λ _. marksBefore (c .asked) .0) (risesDone s (c .asked))
 
 -- ---- lists of calls: "each call is lent the bank and gate as the call before left them", and the map
 
@@ -87,15 +139,15 @@ answers s [] = []
 answers s (c ∷ cs) = answer s c ∷ answers (left s c) cs
 
 -- "a call is accepted if it isn't refused": the hop of an accepted bank update, and of an accepted gate update
-abbrev pub bankHop : ℕ → Arguments → List Hop
-bankHop zero (bank h) = h ∷ []
+abbrev pub bankHop : ℕ → AskedWith → List Hop
+bankHop zero (bank c h) = h ∷ []
 bankHop zero (gate c h rise drop) = []
 bankHop zero (hold c rise drop) = []
 bankHop zero (write i v) = []
 bankHop (suc r) c = []
 
-abbrev pub gateHop : ℕ → Arguments → List GateHop
-gateHop zero (bank h) = []
+abbrev pub gateHop : ℕ → AskedWith → List GateHop
+gateHop zero (bank c h) = []
 gateHop zero (gate c h rise drop) = h ∷ []
 gateHop zero (hold c rise drop) = []
 gateHop zero (write i v) = []
@@ -103,11 +155,11 @@ gateHop (suc r) c = []
 
 abbrev pub bankHops : Stores → List Call → List Hop
 bankHops s [] = []
-bankHops s (c ∷ cs) = bankHop (answer s c) (arguments c) ++ bankHops (left s c) cs
+bankHops s (c ∷ cs) = bankHop (answer s c) (arguments c .asked) ++ bankHops (left s c) cs
 
 abbrev pub gateHops : Stores → List Call → List GateHop
 gateHops s [] = []
-gateHops s (c ∷ cs) = gateHop (answer s c) (arguments c) ++ gateHops (left s c) cs
+gateHops s (c ∷ cs) = gateHop (answer s c) (arguments c .asked) ++ gateHops (left s c) cs
 
 -- the numbers of accepted updates
 abbrev pub bankUpdates : Stores → List Call → ℕ
@@ -139,25 +191,45 @@ pub record Making : Type 0 where
   pub early : ℤ
   pub lengths : List ℕ
 
--- what making answers and leaves, of lent stores that hold anything
-unfoldable pub newBank : Making → Stores → ℕ × List ℕ × List Float
-newBank k s = bankNew (s .bu) (s .bf) (k .n)
+-- what a set is made from: lent stores that hold anything. R-6: with W, which is no setting: in two sets of equal settings it may differ
+pub record Lent : Type 0 where
+  pub stores : Stores
+  pub W : ℕ
 
-unfoldable pub newGate : Making → Stores → ℕ × List ℕ × List Float
-newGate k s = gateNew (s .gu) (s .gf) (k .gate-n) (k .on) (k .off) (k .early) (k .lengths)
+-- what making answers and leaves
+unfoldable pub newBank : Making → Lent → ℕ × List ℕ × List Float
+newBank k p = bankNew (p .stores .bu) (p .stores .bf) (k .n)
+
+unfoldable pub newGate : Making → Lent → ℕ × List ℕ × List Float
+newGate k p = gateNew (p .stores .gu) (p .stores .gf) (k .gate-n) (k .on) (k .off) (k .early) (k .lengths)
+
+-- R-6: "the store starts fresh beside its bank, made for the same n"
+unfoldable pub newWorst : Making → Lent → ℕ × List ℕ × List Float
+newWorst k p = worstNew (p .stores .wu) (p .stores .wf) (k .n) (p .W)
 
 -- R-12: "a lent map starts fresh beside its gate, made for the same n"
-unfoldable pub newMap : Making → Stores → ℕ × List ℕ
-newMap k s = mapNew (newGate k s .1) (newGate k s .2) (s .map)
+unfoldable pub newMap : Making → Lent → ℕ × List ℕ
+newMap k p = mapNew (newGate k p .1) (newGate k p .2) (p .stores .map)
 
-abbrev pub made : Making → Stores → Stores
-made k s = record { bu = newBank k s .1; bf = newBank k s .2; gu = newGate k s .1; gf = newGate k s .2; map = newMap k s .1 }
+abbrev pub made : Making → Lent → Stores
+made k p =
+    record {
+      bu = newBank k p .1;
+      bf = newBank k p .2;
+      gu = newGate k p .1;
+      gf = newGate k p .2;
+      wu = newWorst k p .1;
+      wf = newWorst k p .2;
+      map = newMap k p .1;
+    }
 
--- none is refused. A set that never carries a map has none: any bytes of the right length stand for it, since they are not touched
-pub record Made (k : Making) (s : Stores) : Type 0 where
-  pub bank : newBank k s .0 ≡ 0
-  pub gate : newGate k s .0 ≡ 0
-  pub map : newMap k s .0 ≡ 0
+-- none is refused. A set that never carries R-6's store or R-12's map has none: any W, and any stores and bytes of the right lengths stand for them,
+-- since they are not touched
+pub record Made (k : Making) (p : Lent) : Type 0 where
+  pub bank : newBank k p .0 ≡ 0
+  pub gate : newGate k p .0 ≡ 0
+  pub worst : newWorst k p .0 ≡ 0
+  pub map : newMap k p .0 ≡ 0
 
 -- ---- the claim
 
@@ -193,8 +265,8 @@ pub record Same (k : Making) (a : ℕ) (s t : Stores) (fs gs : List Call) : Type
 
 abbrev pub Demand3 : Type 0
 Demand3 =
-    -- "each from a fresh bank and gate of equal settings"
-    (k : Making) (p q : Stores) → Made k p → Made k q
+    -- "each from a fresh bank and gate of equal settings", and R-6's store with a W of its own
+    (k : Making) (p q : Lent) → Made k p → Made k q
     -- "take any two lists of bank updates, gate updates and holds", and of writes to the map
     → (xs ys : List Call)
     -- "whose numbers of accepted bank updates are equal modulo 15"

@@ -24,11 +24,16 @@ pub mod DeadBranches
 pub mod Carried
 pub mod SameAnswers
 pub mod Reach
+pub mod Worst
+pub mod WorstCalls
+pub mod GoodWorst
 pub mod Demand3
 pub mod Sets
 pub mod Anew
 pub mod Remembered
 pub mod Exports
+pub mod Remake
 pub mod Segments
 pub mod Louder
 pub mod MapSets
+pub mod WorstOfLate

@@ -10,7 +10,7 @@ use lib.Ieee.{lt, le}
 use Rattle.model.specs.Numbers.{f0}
 use Rattle.model.specs.Bank.{FloorBank, Hop}
 use Rattle.model.specs.Readings.{rawAt, effectiveAt}
-use Rattle.model.specs.Demand3.{Call, Stores, leftBy, bankHops, bankUpdates, bankIn, Making, newBank, made}
+use Rattle.model.specs.Demand3.{Call, Stores, Lent, leftBy, bankHops, bankUpdates, bankIn, Making, newBank, made}
 
 -- ---- two lists
 
@@ -29,7 +29,7 @@ abbrev pub AllAccepted : Stores → List Call → Type 0
 AllAccepted s cs = bankUpdates s cs ≡ length cs
 
 -- "If two lists of bank updates from fresh banks": made with k in p and with l in q. The gates beside them need not even be made
-pub record Louder (k l : Making) (p q : Stores) (cs ds : List Call) : Type 0 where
+pub record Louder (k l : Making) (p q : Lent) (cs ds : List Call) : Type 0 where
   -- "from fresh banks of equal n": neither is refused
   pub first-fresh : newBank k p .0 ≡ 0
   pub second-fresh : newBank l q .0 ≡ 0
@@ -45,7 +45,7 @@ pub record Louder (k l : Making) (p q : Stores) (cs ds : List Call) : Type 0 whe
 -- ---- the claim
 
 -- the bank that these calls leave
-abbrev pub after : Making → Stores → List Call → FloorBank
+abbrev pub after : Making → Lent → List Call → FloorBank
 after k p cs = bankIn (leftBy (made k p) cs)
 
 -- "every raw floor after the second list is at least that after the first"
@@ -53,12 +53,12 @@ abbrev pub Higher : ℕ → FloorBank → FloorBank → Type 0
 Higher n b d = (c : ℕ) → c < n → le (rawAt b c) (rawAt d c) ≡ true
 
 abbrev pub LouderHigher : Type 0
-LouderHigher = (k l : Making) (p q : Stores) (cs ds : List Call) → Louder k l p q cs ds → Higher (k .n) (after k p cs) (after l q ds)
+LouderHigher = (k l : Making) (p q : Lent) (cs ds : List Call) → Louder k l p q cs ds → Higher (k .n) (after k p cs) (after l q ds)
 
 -- The same where gate updates, holds and refused calls stand among the updates, in either list: accepted bank updates alone count
 abbrev pub LouderAmong : Type 0
 LouderAmong =
-    (k l : Making) (p q : Stores) → newBank k p .0 ≡ 0 → newBank l q .0 ≡ 0 → k .n ≡ l .n
+    (k l : Making) (p q : Lent) → newBank k p .0 ≡ 0 → newBank l q .0 ≡ 0 → k .n ≡ l .n
     → (cs ds : List Call) → bankUpdates (made k p) cs ≡ bankUpdates (made l q) ds
     → AtLeast (k .n) (bankHops (made k p) cs) (bankHops (made l q) ds) → Higher (k .n) (after k p cs) (after l q ds)
 
@@ -67,7 +67,7 @@ LouderAmong =
 -- there are two such lists after which P is so of a channel in the two banks
 abbrev pub Somewhere : (ℕ → FloorBank → FloorBank → Type 0) → Type 0
 Somewhere P =
-    (k : Making) × (l : Making) × (p : Stores) × (q : Stores) × (cs : List Call) × (ds : List Call) × (c : ℕ)
+    (k : Making) × (l : Making) × (p : Lent) × (q : Lent) × (cs : List Call) × (ds : List Call) × (c : ℕ)
     × Louder k l p q cs ds × (c < k .n) × P c (after k p cs) (after l q ds)
 
 -- a raw floor that is higher after the second

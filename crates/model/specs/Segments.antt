@@ -9,7 +9,7 @@ use lib.Dec.{eqb}
 use Rattle.model.specs.Layout.{decimationHops}
 use Rattle.model.specs.Gate.{among}
 use Rattle.model.specs.GateCalls.{absent}
-use Rattle.model.specs.Demand3.{Call, Stores, answer, left, risesOf, arguments, leftBy, bankUpdates, gateUpdates, Making, made, Made, SameFloors, Enough, Same}
+use Rattle.model.specs.Demand3.{Call, Stores, Lent, answer, left, risesOf, arguments, leftBy, bankUpdates, gateUpdates, Making, made, Made, SameFloors, Enough, Same}
 
 -- ---- runs
 
@@ -86,7 +86,7 @@ abbrev pub EachSegment : Type 0
 EachSegment =
     (i : ℕ)
     -- its bank and gate are fresh and of equal settings in both; the other segments hold anything, made by settings of their own or not
-    (k : Making) (p q : Stores) → Made k p → Made k q → (r t : Segments) → r i ≡ made k p → t i ≡ made k q
+    (k : Making) (p q : Lent) → Made k p → Made k q → (r t : Segments) → r i ≡ made k p → t i ≡ made k q
     -- any two runs, in which segment i is changed by its own calls alone, and with the others anything is done
     → (xs ys : List Event) → isKept i xs ≡ true → isKept i ys ≡ true
     -- whose numbers of accepted updates of segment i are as demand 3 asks
@@ -120,5 +120,5 @@ AllSeen = (k : Making) (a i : ℕ) (r t : Segments) (fs gs : List Event) → Sam
 abbrev pub EachCanBeMet : Type 0
 EachCanBeMet =
     (i : ℕ)
-    → (k : Making) × (p : Stores) × (fs : List Event) × Made k p × (absent (k .early) ≡ true) × (isKept i fs ≡ true)
+    → (k : Making) × (p : Lent) × (fs : List Event) × Made k p × (absent (k .early) ≡ true) × (isKept i fs ≡ true)
     × Enough (k .n) 0 (made k p) (own i fs)

@@ -19,3 +19,10 @@ pub enum FloorsReading {
     Value(Floors),
     Refused(u16),
 }
+
+// The worst floor of late (document 02, R-6): a value, none before the first slow hop, or a refusal number.
+pub enum WorstReading {
+    Value(f64),
+    NoneYet,
+    Refused(u16),
+}

@@ -51,7 +51,7 @@ pub fn end_byte(byte: u64, got: usize) -> u64
     std::num::wrapping_add_u64(byte, got as u64)
 }
 
-fn no_number() -> f64
+pub fn no_number() -> f64
     ensures { λ r. ⌜ r ≡ nan ⌝ }
 {
     0.0 / 0.0

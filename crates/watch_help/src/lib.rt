@@ -41,6 +41,9 @@ fn print_options() {
         b"  --explain K    in place of the changes: where the floors of channel K come from, a line whenever a rule takes over\n",
     );
     say(b"                 from another or a floor jumps by 1 dB or more\n");
+    say(
+        b"  --worst W      keeps the worst floor of late: the highest effective floor of the last W slow hops, 1 to 600 (24 s)\n",
+    );
     say(b"  --csv          a line per slow hop (every 15th) and channel, for tools/plot.py\n");
     say(b"  --log          FILE is a hop log\n");
     say(b"  --help         this text\n\n");
@@ -93,6 +96,7 @@ fn print_reason(fault: u8) {
             b" is no list of one to eight lengths of 1 to 375 hops, as 15,75,375\n",
         ),
         watch_words::BAD_CHANNEL => cry(b" is no channel: a number from 0 to 511\n"),
+        watch_words::BAD_SPAN => cry(b" is no span: a number of slow hops from 1 to 600\n"),
         watch_words::NO_VALUE => cry(b" is the last word and needs a value\n"),
         watch_words::SECOND_FILE => cry(b" is a second file; watch takes one\n"),
         _ => cry(b" is too long\n"),

@@ -23,6 +23,8 @@ pub fn watch_hops(
     n: u16,
     bank: &mut [u16],
     bank_f: &mut [f64],
+    worst: &mut [u16],
+    worst_f: &mut [f64],
     gate: &mut [u16],
     gate_f: &mut [f64],
 ) {
@@ -44,6 +46,8 @@ pub fn watch_hops(
         n,
         bank,
         bank_f,
+        worst,
+        worst_f,
         gate,
         gate_f,
         &mut bits[..k],
@@ -83,6 +87,8 @@ fn watch_all(
     n: u16,
     bank: &mut [u16],
     bank_f: &mut [f64],
+    worst: &mut [u16],
+    worst_f: &mut [f64],
     gate: &mut [u16],
     gate_f: &mut [f64],
     bits: &mut [u64],
@@ -101,7 +107,20 @@ fn watch_all(
     while turns > 0 && place.is_on {
         let before = explanation_before(s, bank, bank_f);
         let step = read_hop(fd, s, n, bits, powers, db, power);
-        let heard = hear(step, bank, bank_f, gate, gate_f, db, power, rise, drop);
+        let heard = hear(
+            step,
+            s.worst > 0,
+            bank,
+            bank_f,
+            worst,
+            worst_f,
+            gate,
+            gate_f,
+            db,
+            power,
+            rise,
+            drop,
+        );
         place = follow(
             fd,
             name,
@@ -111,6 +130,8 @@ fn watch_all(
             before,
             bank,
             bank_f,
+            worst,
+            worst_f,
             gate,
             gate_f,
             db,
@@ -123,7 +144,17 @@ fn watch_all(
         );
         turns -= 1;
     }
-    tail::print_tail(s, place.hop, bank, bank_f, alive, alive_hops, rises);
+    tail::print_tail(
+        s,
+        place.hop,
+        bank,
+        bank_f,
+        worst,
+        worst_f,
+        alive,
+        alive_hops,
+        rises,
+    );
 }
 
 // What became of a hop: told, and if it was taken counted.
@@ -136,6 +167,8 @@ fn follow(
     before: Explanation,
     bank: &[u16],
     bank_f: &[f64],
+    worst: &[u16],
+    worst_f: &[f64],
     gate: &[u16],
     gate_f: &[f64],
     db: &[f64],
@@ -158,6 +191,8 @@ fn follow(
         before,
         bank,
         bank_f,
+        worst,
+        worst_f,
         gate,
         gate_f,
         db,
@@ -215,6 +250,8 @@ fn take_hop(
     before: Explanation,
     bank: &[u16],
     bank_f: &[f64],
+    worst: &[u16],
+    worst_f: &[f64],
     gate: &[u16],
     gate_f: &[f64],
     db: &[f64],
@@ -236,6 +273,8 @@ fn take_hop(
         db,
         bank,
         bank_f,
+        worst,
+        worst_f,
         gate,
         gate_f,
         alive,

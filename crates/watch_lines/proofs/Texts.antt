@@ -1,11 +1,14 @@
 -- Texts one after another. Assumes nothing.
-use mathlib.Core.Path.{_≡_, ap, _∙_}
+use mathlib.Core.Path.{_≡_, refl, ap, _∙_}
+use mathlib.Core.Bool.{Bool, true, false}
 use mathlib.Core.List.{List, [], _∷_, _++_}
 use Prim.Native.Nat.{ℕ, _-_}
 use native.Mathlib.Omega.{arith}
 use lib.ListN.{length}
 use Rattle.watch_text.specs.Text.{Written, putAll, spaces, right}
-use Rattle.watch_lines.specs.Lines.{putTexts}
+use Rattle.model.specs.declared.WorstReading.{WorstReading}
+use Rattle.watch_worst.specs.Told.{worstText}
+use Rattle.watch_lines.specs.Lines.{putTexts, worstColumn}
 
 -- the last text
 pub last : (w x : Written) (t : List ℕ) → x ≡ putAll w t → x ≡ putTexts w (t ∷ [])
@@ -28,3 +31,11 @@ pub plain : (w v : Written) (t : List ℕ) → v ≡ putAll w (right 0 t) → v 
 unfolding right spaces
 plain w v t e =
     e ∙ ap (λ (n : ℕ). putAll w (spaces n ++ t)) (let z : 0 - length t ≡ 0 = omega arith in z)
+
+-- a column that is asked for, or isn't
+pub no-column : (w : Written) (b : Bool) (r : WorstReading) → b ≡ false → w ≡ putTexts w (worstColumn b r)
+unfolding putTexts
+no-column w b r f = rw f refl
+
+pub column : (w v : Written) (b : Bool) (r : WorstReading) → b ≡ true → v ≡ putAll w (right 15 (worstText r)) → v ≡ putTexts w (worstColumn b r)
+column w v b r t e = rw t (last w v (right 15 (worstText r)) e)

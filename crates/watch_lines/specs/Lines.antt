@@ -1,17 +1,19 @@
 -- The lines of a report, each as the list of its columns.
-use mathlib.Core.Bool.{Bool, false}
+use mathlib.Core.Bool.{Bool, true, false}
 use mathlib.Core.List.{List, [], _∷_, _++_}
 use Prim.Native.Nat.{ℕ}
 use lib.Ieee.{Float}
 use Rattle.laws.specs.Texts.{ascii}
 use Rattle.laws.specs.Lists.{one}
 use Rattle.model.specs.declared.Floors.{Floors}
+use Rattle.model.specs.declared.WorstReading.{WorstReading}
 use Rattle.watch_text.specs.Text.{Written, putAll, right, decimal, thousandths, millis}
 use Rattle.watch_floats.specs.Floats.{dbText}
 use Rattle.watch_names.specs.Names.{changeName, stateName, eventName}
 use Rattle.origins.specs.Origins.{effectiveDb, riseDb}
 use Rattle.origins.specs.declared.Explanation.{Explanation}
 use Rattle.watch_origins.specs.Told.{effectiveName, riseName}
+use Rattle.watch_worst.specs.Told.{worstText}
 
 -- one text after another
 unfoldable pub putTexts : Written → List (List ℕ) → Written
@@ -83,6 +85,11 @@ channelFloors k f =
     ∷ right 12 (dbText (f .rise))
     ∷ []
 
+-- the worst floor of late, where it is kept (document 02, R-6)
+abbrev pub worstColumn : Bool → WorstReading → List (List ℕ)
+worstColumn true r = right 15 (worstText r) ∷ []
+worstColumn false r = []
+
 -- where the effective floor comes from, and where the rise floor
 abbrev pub originColumns : Explanation → List (List ℕ)
 originColumns x = right 16 (effectiveName (x .effective)) ∷ right 17 (riseName (x .rise)) ∷ []
@@ -91,5 +98,6 @@ originColumns x = right 16 (effectiveName (x .effective)) ∷ right 17 (riseName
 abbrev pub channelEnd : ℕ → ℕ → Bool → List (List ℕ)
 channelEnd aliveHops rises alive = right 10 (secondsText aliveHops) ∷ right 7 (decimal rises) ∷ stateName alive ∷ []
 
-abbrev pub channelLine : ℕ → Floors → Explanation → ℕ → ℕ → Bool → List (List ℕ)
-channelLine k f x aliveHops rises alive = channelFloors k f ++ (originColumns x ++ channelEnd aliveHops rises alive)
+abbrev pub channelLine : ℕ → Floors → Bool → WorstReading → Explanation → ℕ → ℕ → Bool → List (List ℕ)
+channelLine k f kept worst x aliveHops rises alive =
+    channelFloors k f ++ (worstColumn kept worst ++ (originColumns x ++ channelEnd aliveHops rises alive))

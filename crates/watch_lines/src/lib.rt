@@ -6,10 +6,11 @@ ghost use mathlib.Core.List.{[], _∷_};
 ghost use Rattle.laws.specs.Texts.{ascii};
 ghost use Rattle.watch_floats.specs.Floats.{dbText};
 ghost use Rattle.watch_lines.specs.Lines.{putTexts, more, changeLine, rowStart, rowLevels, rowEnd, rowLine, totalLine};
-ghost use Rattle.watch_lines.specs.Lines.{channelFloors, channelEnd, channelLine};
+ghost use Rattle.watch_lines.specs.Lines.{channelFloors, worstColumn, channelEnd, channelLine};
 use crate::explained::put_origins;
 use crate::explained::put_row_origins;
 use model::Floors;
+use model::WorstReading;
 use origins::Explanation;
 use watch_figures::bit;
 use watch_floats::put_db;
@@ -20,6 +21,7 @@ use watch_text::LINE;
 use watch_text::put_number;
 use watch_text::put_seconds;
 use watch_text::put_text;
+use watch_worst::put_worst;
 
 // A change of a channel, as far as the reference.
 pub fn put_change_line(
@@ -113,14 +115,17 @@ pub fn put_channel_line(
     line: &mut [u8; LINE],
     k: usize,
     f: Floors,
+    is_kept: bool,
+    worst: WorstReading,
     x: Explanation,
     alive_hops: u64,
     rises: u64,
     is_alive: bool,
 ) -> usize
-    ensures { λ r. ⌜ (now (line .exit), r) ≡ putTexts (now (line .entry), 0) (channelLine k f x «alive_hops» rises «is_alive») ⌝ }
+    ensures { λ r. ⌜ (now (line .exit), r) ≡ putTexts (now (line .entry), 0) (channelLine k f «is_kept» worst x «alive_hops» rises «is_alive») ⌝ }
 {
     let at = put_channel_floors(line, k, f);
+    let at = put_worst_column(line, at, is_kept, worst);
     let at = put_origins(line, at, x);
     put_channel_end(line, at, alive_hops, rises, is_alive)
 }
@@ -132,6 +137,16 @@ fn put_channel_floors(line: &mut [u8; LINE], k: usize, f: Floors) -> usize
     let at = put_db(line, at, f.raw, 11);
     let at = put_db(line, at, f.effective, 11);
     put_db(line, at, f.rise, 12)
+}
+
+// The worst floor of late, where it is kept (document 02, R-6).
+fn put_worst_column(line: &mut [u8; LINE], at: usize, is_kept: bool, x: WorstReading) -> usize
+    ensures { λ r. ⌜ (now (line .exit), r) ≡ putTexts (now (line .entry), at) (worstColumn «is_kept» x) ⌝ }
+{
+    if !is_kept {
+        return at;
+    }
+    put_worst(line, at, x, 15)
 }
 
 fn put_channel_end(

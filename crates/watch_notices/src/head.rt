@@ -28,6 +28,16 @@ fn put_lengths(line: &mut [u8; LINE], at: usize, lengths: &[u16]) -> usize {
     end
 }
 
+// Over how many slow hops the worst floor goes, where it is kept.
+fn put_span(line: &mut [u8; LINE], at: usize, span: usize) -> usize {
+    if span == 0 {
+        return at;
+    }
+    let at = put_text(line, at, b" Worst floor of the last ");
+    let at = put_number(line, at, span as u64, 0);
+    put_text(line, at, b" slow hops.")
+}
+
 fn print_settings(s: Settings, lengths: &[u16], n: u16) {
     let mut line = [0u8; LINE];
     let at = put_number(&mut line, 0, wide(n), 0);
@@ -39,7 +49,9 @@ fn print_settings(s: Settings, lengths: &[u16], n: u16) {
     let at = put_level(&mut line, at, s.early);
     let at = put_text(&mut line, at, b"; windows of");
     let at = put_lengths(&mut line, at, lengths);
-    let at = put_text(&mut line, at, b" hops.\n\n");
+    let at = put_text(&mut line, at, b" hops.");
+    let at = put_span(&mut line, at, s.worst);
+    let at = put_text(&mut line, at, b"\n\n");
     say(&line, at);
 }
 
@@ -85,6 +97,9 @@ fn print_csv_head(s: Settings) {
     );
     if s.has_reference {
         io::write_all(STDOUT_FILENO, b",reference");
+    }
+    if s.worst > 0 {
+        io::write_all(STDOUT_FILENO, b",worst_floor_db");
     }
     io::write_all(STDOUT_FILENO, b"\n");
 }

@@ -2,11 +2,13 @@
 ghost use mathlib.Core.Path.{_≡_};
 ghost use Rattle.model.specs.Readings.{referenceReading};
 ghost use Rattle.watch_lines.specs.Lines.{putTexts, changeLine, rowLine};
-ghost use Rattle.watch_report.specs.Shown.{floorsShown, smoothedShown, explanationShown, referenceCell};
+ghost use Rattle.watch_report.specs.Shown.{floorsShown, smoothedShown, explanationShown, worstCell, referenceCell};
 use crate::explanations::explanation_shown;
 use crate::explanations::print_explanation;
 use crate::out::floors_shown;
 use crate::out::put_reference;
+use crate::out::worst_shown;
+use model::WorstReading;
 use origins::Explanation;
 use watch_figures::ends_minute;
 use watch_figures::float_at;
@@ -21,6 +23,7 @@ use watch_text::LINE;
 use watch_text::put_number;
 use watch_text::put_text;
 use watch_words::Settings;
+use watch_worst::put_worst;
 
 // A line on standard error for each minute of a recording.
 fn print_progress(hop: u64) {
@@ -41,6 +44,8 @@ pub fn print_hop(
     db: &[f64],
     bank: &[u16],
     bank_f: &[f64],
+    worst: &[u16],
+    worst_f: &[f64],
     gate: &[u16],
     gate_f: &[f64],
     alive: &[u8],
@@ -64,6 +69,8 @@ pub fn print_hop(
             db,
             bank,
             bank_f,
+            worst,
+            worst_f,
             gate,
             gate_f,
             alive,
@@ -141,6 +148,8 @@ fn print_rows(
     db: &[f64],
     bank: &[u16],
     bank_f: &[f64],
+    worst: &[u16],
+    worst_f: &[f64],
     gate: &[u16],
     gate_f: &[f64],
     alive: &[u8],
@@ -155,6 +164,8 @@ fn print_rows(
             float_at(db, k),
             bank,
             bank_f,
+            worst,
+            worst_f,
             gate,
             gate_f,
             k,
@@ -191,6 +202,8 @@ fn print_row(
     db: f64,
     bank: &[u16],
     bank_f: &[f64],
+    worst: &[u16],
+    worst_f: &[f64],
     gate: &[u16],
     gate_f: &[f64],
     k: usize,
@@ -211,6 +224,8 @@ fn print_row(
         event,
     );
     let at = put_csv_reference(&mut line, at, s.has_reference, bank, bank_f, k, is_alive);
+    let w = worst_shown(s, bank, bank_f, worst, worst_f, k);
+    let at = put_csv_worst(&mut line, at, s.worst, w);
     let at = put_text(&mut line, at, b"\n");
     say(&line, at);
 }
@@ -235,4 +250,14 @@ fn put_csv_reference(
     }
     let x = value(readings::spectral_reference(bank, bank_f, k));
     put_power(line, end, x, 0)
+}
+
+fn put_csv_worst(line: &mut [u8; LINE], at: usize, span: usize, x: WorstReading) -> usize
+    ensures { λ r. ⌜ (now (line .exit), r) ≡ putTexts (now (line .entry), at) (worstCell span x) ⌝ }
+{
+    if span == 0 {
+        return at;
+    }
+    let end = put_text(line, at, b",");
+    put_worst(line, end, x, 0)
 }

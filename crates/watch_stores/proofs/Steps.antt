@@ -6,9 +6,10 @@ use lib.IntN.{ℤ}
 use lib.Ieee.{Float}
 use Rattle.model.specs.Calls.{bankNew}
 use Rattle.model.specs.GateCalls.{gateNew}
+use Rattle.model.specs.WorstCalls.{worstNew}
 use Rattle.watch_levels.specs.Levels.{signedOf}
 use Rattle.watch_words.specs.declared.Settings.{Settings}
-use Rattle.watch_stores.specs.Made.{Made, beside, after, made}
+use Rattle.watch_stores.specs.Made.{Made, beside, after, made, worstMade}
 
 module _ (s : Settings) (lengths : List ℕ) (n : ℕ) (bu : List ℕ) (bf : List Float) (gu : List ℕ) (gf : List Float) where
   -- a refusal of the bank is all
@@ -31,3 +32,13 @@ module _ (s : Settings) (lengths : List ℕ) (n : ℕ) (bu : List ℕ) (bf : Lis
         ap (beside u f) (e ∙ (λ i. gateNew gu gf (v i) (o i) (p i) (q i) lengths))
         ∙ ap (λ (y : ℕ). after y s lengths n u f gu gf) (sym z)
         ∙ ap then (b ∙ ap (bankNew bu bf) w)
+
+module _ (n : ℕ) (wu : List ℕ) (wf : List Float) where
+  pub not-kept : (w : ℕ) → w ≡ 0 → (0, wu, wf) ≡ worstMade w n wu wf
+  unfolding worstMade
+  not-kept w z = rw z refl
+
+  pub kept : (w m : ℕ) (a : ℕ × List ℕ × List Float) → (w ≡ 0 → ⊥) → m ≡ n → a ≡ worstNew wu wf m w → a ≡ worstMade w n wu wf
+  unfolding worstMade
+  kept zero m a z e g = absurd (z refl)
+  kept (suc w) m a z e g = g ∙ ap (λ (k : ℕ). worstNew wu wf k (suc w)) e

@@ -1,9 +1,10 @@
--- A fresh bank and a fresh gate for a recording.
+-- A fresh bank and a fresh gate for a recording, and a fresh store of the worst floor of late (document 02, R-6).
 use mathlib.Core.List.{List}
 use Prim.Native.Nat.{ℕ, zero, suc}
 use lib.Ieee.{Float}
 use Rattle.model.specs.Calls.{bankNew}
 use Rattle.model.specs.GateCalls.{gateNew}
+use Rattle.model.specs.WorstCalls.{worstNew}
 use Rattle.watch_levels.specs.Levels.{signedOf}
 use Rattle.watch_words.specs.declared.Settings.{Settings}
 
@@ -25,3 +26,8 @@ after (suc r) s lengths n bu bf gu gf = (suc r, bu, bf, gu, gf)
 
 unfoldable pub made : Settings → List ℕ → ℕ → List ℕ → List Float → List ℕ → List Float → Made
 made s lengths n bu bf gu gf = let b = bankNew bu bf n in after (b .0) s lengths n (b .1) (b .2) gu gf
+
+-- the store of the worst floor over so many slow hops; over 0 it is not kept, and nothing is made
+unfoldable pub worstMade : ℕ → ℕ → List ℕ → List Float → ℕ × List ℕ × List Float
+worstMade zero n wu wf = (0, wu, wf)
+worstMade (suc w) n wu wf = worstNew wu wf n (suc w)

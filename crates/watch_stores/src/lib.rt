@@ -1,6 +1,6 @@
 // The stores of a recording, made.
 ghost use mathlib.Core.Path.{_≡_};
-ghost use Rattle.watch_stores.specs.Made.{made};
+ghost use Rattle.watch_stores.specs.Made.{made, worstMade};
 use laws::wide;
 use watch_levels::signed;
 use watch_words::Settings;
@@ -30,4 +30,14 @@ pub fn make(
         signed(s.early),
         lengths,
     )
+}
+
+// Beside them a fresh store of the worst floor of late, where it is to be kept: likewise.
+pub fn make_worst(s: Settings, n: u16, worst: &mut [u16], worst_f: &mut [f64]) -> u16
+    ensures { λ r. ⌜ (r, now (worst .exit), now («worst_f» .exit)) ≡ worstMade (s .worst) n (now (worst .entry)) (now («worst_f» .entry)) ⌝ }
+{
+    if s.worst == 0 {
+        return 0;
+    }
+    worst_store::worst_new(worst, worst_f, wide(n), s.worst)
 }

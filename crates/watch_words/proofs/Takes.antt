@@ -4,9 +4,9 @@ use mathlib.Core.List.{List}
 use Prim.Native.Nat.{ℕ}
 use borrow.Author.Tests.{eq-eqb, ne-eqb}
 use Rattle.watch_lengths.specs.Lengths.{lengthsOf}
-use Rattle.watch_channel.specs.Channel.{channelOf}
+use Rattle.watch_numbers.specs.Numbers.{channelOf, spanOf}
 use Rattle.watch_words.specs.declared.Settings.{Settings}
-use Rattle.watch_words.specs.Words.{any, noFault, badLengths, badChannel, lengthsValue, explainValue, faulty, counting, explaining, channelTaken, wordOf, anyTaken, levelTaken, lengthsTaken, wordTaken}
+use Rattle.watch_words.specs.Words.{any, noFault, badLengths, badChannel, badSpan, lengthsValue, explainValue, worstValue, faulty, counting, explaining, spanning, channelTaken, spanTaken, wordOf, anyTaken, levelTaken, lengthsTaken, wordTaken}
 
 module _ (s : Settings) (i : ℕ) where
   -- a list of lengths that is none, and one of n lengths
@@ -27,6 +27,15 @@ module _ (s : Settings) (i : ℕ) where
   unfolding channelTaken
   explained v h = simp (ne-eqb v 0 h)
 
+  -- a word that is no span, and one that is
+  pub no-span : (w : ℕ) (t : Settings) → w ≡ 0 → t ≡ faulty s badSpan i → t ≡ spanTaken s i w
+  unfolding spanTaken
+  no-span w t h e = simp (eq-eqb w 0 h, e)
+
+  pub spanned : (w : ℕ) → (w ≡ 0 → ⊥) → spanning s w ≡ spanTaken s i w
+  unfolding spanTaken
+  spanned w h = simp (ne-eqb w 0 h)
+
   module _ (l w : List ℕ) where
     pub after-fault : (s .fault ≡ noFault → ⊥) → (l, s) ≡ wordTaken (l, s) i w
     unfolding wordTaken
@@ -44,7 +53,11 @@ module _ (s : Settings) (i : ℕ) where
     unfolding wordTaken
     channel-due t f d e = simp (eq-eqb (s .fault) 0 f, d, e)
 
-    pub level-due : (t : Settings) → s .fault ≡ noFault → (s .due ≡ any → ⊥) → (s .due ≡ lengthsValue → ⊥) → (s .due ≡ explainValue → ⊥) → t ≡ levelTaken s i w
+    pub span-due : (t : Settings) → s .fault ≡ noFault → s .due ≡ worstValue → t ≡ spanTaken s i (spanOf w) → (l, t) ≡ wordTaken (l, s) i w
+    unfolding wordTaken
+    span-due t f d e = simp (eq-eqb (s .fault) 0 f, d, e)
+
+    pub level-due : (t : Settings) → s .fault ≡ noFault → (s .due ≡ any → ⊥) → (s .due ≡ lengthsValue → ⊥) → (s .due ≡ explainValue → ⊥) → (s .due ≡ worstValue → ⊥) → t ≡ levelTaken s i w
         → (l, t) ≡ wordTaken (l, s) i w
     unfolding wordTaken
-    level-due t f d g h e = simp (eq-eqb (s .fault) 0 f, ne-eqb (s .due) 0 d, ne-eqb (s .due) 4 g, ne-eqb (s .due) 5 h, e)
+    level-due t f d g h k e = simp (eq-eqb (s .fault) 0 f, ne-eqb (s .due) 0 d, ne-eqb (s .due) 4 g, ne-eqb (s .due) 5 h, ne-eqb (s .due) 6 k, e)

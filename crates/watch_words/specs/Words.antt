@@ -10,9 +10,9 @@ use Rattle.watch_levels.specs.declared.LevelWord.{LevelWord}
 use Rattle.watch_levels.specs.declared.LevelWord.the-variants.{Is, Wrong}
 use Rattle.watch_levels.specs.Levels.{level, noLevel, levelOf}
 use Rattle.watch_lengths.specs.Lengths.{lengthsOf}
-use Rattle.watch_channel.specs.Channel.{channelOf}
+use Rattle.watch_numbers.specs.Numbers.{channelOf, spanOf}
 use Rattle.watch_words.specs.declared.Word.{Word}
-use Rattle.watch_words.specs.declared.Word.the-variants.{Help, Csv, Reference, Log, On, Off, Early, Lengths, Explain, Unknown, File}
+use Rattle.watch_words.specs.declared.Word.the-variants.{Help, Csv, Reference, Log, On, Off, Early, Lengths, Explain, Worst, Unknown, File}
 use Rattle.watch_words.specs.declared.Settings.{Settings}
 
 -- the options by their names
@@ -28,6 +28,7 @@ options =
     ∷ (ascii "--early", Early)
     ∷ (ascii "--lengths", Lengths)
     ∷ (ascii "--explain", Explain)
+    ∷ (ascii "--worst", Worst)
     ∷ []
 
 unfoldable pub named : List ℕ → List (List ℕ × Word) → Word
@@ -57,6 +58,9 @@ lengthsValue = 4
 abbrev pub explainValue : ℕ
 explainValue = 5
 
+abbrev pub worstValue : ℕ
+worstValue = 6
+
 -- what is wrong with a word
 abbrev pub noFault : ℕ
 noFault = 0
@@ -79,6 +83,9 @@ secondFile = 5
 abbrev pub badChannel : ℕ
 badChannel = 7
 
+abbrev pub badSpan : ℕ
+badSpan = 8
+
 -- on at 9 dB, off at 6 dB, in eighths; no early level; three lengths
 abbrev pub defaults : Settings
 defaults =
@@ -93,6 +100,7 @@ defaults =
       «is_log» = false;
       file = 0;
       explained = 0;
+      worst = 0;
       due = any;
       fault = noFault;
       word = 0;
@@ -115,6 +123,7 @@ valued s a b e n =
       «is_log» = s .«is_log»;
       file = s .file;
       explained = s .explained;
+      worst = s .worst;
       due = any;
       fault = s .fault;
       word = s .word;
@@ -134,6 +143,7 @@ asking s csv reference help log i =
       «is_log» = log;
       file = i;
       explained = s .explained;
+      worst = s .worst;
       due = s .due;
       fault = s .fault;
       word = s .word;
@@ -153,14 +163,15 @@ noted s d f i =
       «is_log» = s .«is_log»;
       file = s .file;
       explained = s .explained;
+      worst = s .worst;
       due = d;
       fault = f;
       word = i;
     }
 
--- settings by which a channel's floors are explained: its number with 1 added
-abbrev pub explaining : Settings → ℕ → Settings
-explaining s v =
+-- settings by which a channel's floors are explained, its number with 1 added, and the worst floor of so many slow hops is kept
+abbrev pub telling : Settings → ℕ → ℕ → Settings
+telling s v w =
     record {
       on = s .on;
       off = s .off;
@@ -172,10 +183,17 @@ explaining s v =
       «is_log» = s .«is_log»;
       file = s .file;
       explained = v;
+      worst = w;
       due = any;
       fault = s .fault;
       word = s .word;
     }
+
+abbrev pub explaining : Settings → ℕ → Settings
+explaining s v = telling s v (s .worst)
+
+abbrev pub spanning : Settings → ℕ → Settings
+spanning s w = telling s (s .explained) w
 
 -- word i has this fault
 abbrev pub faulty : Settings → ℕ → ℕ → Settings
@@ -218,6 +236,7 @@ anyTaken s i Off = awaiting s offValue i
 anyTaken s i Early = awaiting s earlyValue i
 anyTaken s i Lengths = awaiting s lengthsValue i
 anyTaken s i Explain = awaiting s explainValue i
+anyTaken s i Worst = awaiting s worstValue i
 anyTaken s i Unknown = faulty s unknown i
 anyTaken s i File = withFile s i
 
@@ -244,13 +263,18 @@ lengthsTaken s i p = (p .0, cond (eqb (p .1) 0) (faulty s badLengths i) (countin
 unfoldable pub channelTaken : Settings → ℕ → ℕ → Settings
 channelTaken s i v = cond (eqb v 0) (faulty s badChannel i) (explaining s v)
 
+-- a span of slow hops; 0 is none
+unfoldable pub spanTaken : Settings → ℕ → ℕ → Settings
+spanTaken s i w = cond (eqb w 0) (faulty s badSpan i) (spanning s w)
+
 -- the lengths and the settings after word i. After a fault nothing changes any more
 unfoldable pub wordTaken : List ℕ × Settings → ℕ → List ℕ → List ℕ × Settings
 wordTaken (l, s) i w =
     cond (eqb (s .fault) noFault)
     (cond (eqb (s .due) any) (l, anyTaken s i (wordOf w))
     (cond (eqb (s .due) lengthsValue) (lengthsTaken s i (lengthsOf w l))
-    (cond (eqb (s .due) explainValue) (l, channelTaken s i (channelOf w)) (l, levelTaken s i w))))
+    (cond (eqb (s .due) explainValue) (l, channelTaken s i (channelOf w))
+    (cond (eqb (s .due) worstValue) (l, spanTaken s i (spanOf w)) (l, levelTaken s i w)))))
     (l, s)
 
 -- after the last word an option may still lack its value

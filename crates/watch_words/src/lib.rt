@@ -5,17 +5,18 @@ ghost use lib.Dec.{eqb};
 ghost use Rattle.laws.specs.Texts.{ascii, sameBytes};
 ghost use Rattle.watch_words.specs.Words.{named, options, wordOf, defaults, defaultLengths, faulty as Words·faulty};
 ghost use Rattle.watch_words.specs.Words.{awaiting as Words·awaiting, withFile, printing, logged, anyTaken, withLevel, levelTaken, lengthsTaken};
-ghost use Rattle.watch_words.specs.Words.{earlyValue, channelTaken, wordTaken, allTaken};
+ghost use Rattle.watch_words.specs.Words.{earlyValue, channelTaken, spanTaken, wordTaken, allTaken};
 ghost use Rattle.watch_lengths.specs.Lengths.{lengthsOf};
-ghost use Rattle.watch_channel.specs.Channel.{channelOf};
+ghost use Rattle.watch_numbers.specs.Numbers.{channelOf, spanOf};
 use check::same;
-use watch_channel::channel_of;
 use watch_lengths::lengths_of;
 use watch_levels::Level;
 use watch_levels::LevelWord;
 use watch_levels::above;
 use watch_levels::absent;
 use watch_levels::level_of;
+use watch_numbers::channel_of;
+use watch_numbers::span_of;
 
 // What a word can be.
 pub enum Word {
@@ -28,6 +29,7 @@ pub enum Word {
     Early,
     Lengths,
     Explain,
+    Worst,
     Unknown,
     File,
 }
@@ -71,6 +73,9 @@ fn option_of(word: &[u8]) -> Word
     if is(word, b"--explain") {
         return Word::Explain;
     }
+    if is(word, b"--worst") {
+        return Word::Worst;
+    }
     Word::Unknown
 }
 
@@ -100,6 +105,8 @@ pub const LENGTHS: u8 = 4;
 
 pub const EXPLAIN: u8 = 5;
 
+pub const WORST: u8 = 6;
+
 // What is wrong with a word.
 pub const NOTHING: u8 = 0;
 
@@ -117,6 +124,8 @@ pub const TOO_LONG: u8 = 6;
 
 pub const BAD_CHANNEL: u8 = 7;
 
+pub const BAD_SPAN: u8 = 8;
+
 pub struct Settings {
     pub on: Level,
     pub off: Level,
@@ -132,6 +141,8 @@ pub struct Settings {
     pub file: usize,
     // The channel whose floors are explained, with 1 added; 0: none is.
     pub explained: usize,
+    // Over how many slow hops the worst floor of late goes; 0: it is not kept.
+    pub worst: usize,
     // What is due next, and what is wrong with which word.
     pub due: u8,
     pub fault: u8,
@@ -158,6 +169,7 @@ pub fn default_settings() -> Settings
         is_log: false,
         file: 0,
         explained: 0,
+        worst: 0,
         due: ANY,
         fault: NOTHING,
         word: 0,
@@ -226,6 +238,7 @@ fn take_any(s: Settings, i: usize, word: &[u8]) -> Settings
         Word::Early => awaiting(s, EARLY, i),
         Word::Lengths => awaiting(s, LENGTHS, i),
         Word::Explain => awaiting(s, EXPLAIN, i),
+        Word::Worst => awaiting(s, WORST, i),
         Word::Unknown => faulty(s, UNKNOWN, i),
         Word::File => with_file(s, i),
     }
@@ -295,6 +308,18 @@ fn take_channel(mut s: Settings, i: usize, word: &[u8]) -> Settings
     s
 }
 
+fn take_span(mut s: Settings, i: usize, word: &[u8]) -> Settings
+    ensures { λ r. ⌜ r ≡ spanTaken s i (spanOf (now (word .entry))) ⌝ }
+{
+    let w = span_of(word);
+    if w == 0 {
+        return faulty(s, BAD_SPAN, i);
+    }
+    s.due = ANY;
+    s.worst = w;
+    s
+}
+
 // The settings after word i. After a fault nothing changes any more.
 pub fn take_word(s: Settings, i: usize, word: &[u8], lengths: &mut [u16; 8]) -> Settings
     ensures { λ r. ⌜ (now (lengths .exit), r) ≡ wordTaken (now (lengths .entry), s) i (now (word .entry)) ⌝ }
@@ -310,6 +335,9 @@ pub fn take_word(s: Settings, i: usize, word: &[u8], lengths: &mut [u16; 8]) -> 
     }
     if s.due == EXPLAIN {
         return take_channel(s, i, word);
+    }
+    if s.due == WORST {
+        return take_span(s, i, word);
     }
     take_level(s, i, word)
 }

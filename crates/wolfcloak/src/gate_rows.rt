@@ -2,7 +2,7 @@
 ghost use mathlib.Core.Path.{_≡_};
 ghost use Rattle.roles.specs.Rights.{gate-new, gate-remake, gate-update, gate-hold, smoothed-db, ema-rise, asRole};
 ghost use Rattle.model.specs.GateCalls.{gateFLenFor, gateNew, gateUpdate, gateHold, smoothedReading, earlyReading};
-ghost use Rattle.gate_remake.specs.Remake.{gateRemake};
+ghost use Rattle.model.specs.Remake.{gateRemake};
 ghost use Rattle.answers.specs.Answers.{answered};
 
 #[no_mangle]

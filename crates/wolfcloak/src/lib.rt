@@ -5,6 +5,7 @@ pub mod gate_rows;
 pub mod log_rows;
 pub mod map_rows;
 pub mod segment_rows;
+pub mod worst_rows;
 
 ghost use mathlib.Core.Path.{_≡_};
 ghost use mathlib.Core.Bool.{false};

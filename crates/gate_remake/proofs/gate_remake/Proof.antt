@@ -10,8 +10,8 @@ use borrow.Author.Needs.{needs}
 use Rattle.model.specs.GateCalls.{gateRefusal, gateNew}
 use Rattle.model.proofs.GoodGates.{gate-ready, sizes}
 use Rattle.gate_making.proofs.Levels.{three-read}
-use Rattle.gate_remake.specs.Remake.{lengthsIn}
-use Rattle.gate_remake.proofs.Remade.{remade}
+use Rattle.model.specs.Remake.{lengthsIn}
+use Rattle.model.proofs.Remake.{remade}
 use Rattle.gate_remake.proofs.Refused.{not-remade}
 use Rattle.gate_remake.proofs.gate_remake.Statement.{statement}
 use Rattle.gate_remake.proofs.gate_remake.Tie as tie

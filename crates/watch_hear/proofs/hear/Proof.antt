@@ -26,16 +26,16 @@ answer-requires : tie.Need-answer-requires
 answer-requires c κs = search needs
 
 returns : tie.Need-returns
-returns c = ended _ _ _ _ _ _ _ _ (c .enum-told .given .1)
+returns c = ended _ _ _ _ _ _ _ _ _ _ _ (c .enum-told .given .1)
 
 returns-2 : tie.Need-returns-2
-returns-2 c = cut _ _ _ _ _ _ _ _ _ (c .before .step .given .1)
+returns-2 c = cut _ _ _ _ _ _ _ _ _ _ _ _ (c .before .step .given .1)
 
 returns-3 : tie.Need-returns-3
-returns-3 c = bad _ _ _ _ _ _ _ _ _ (c .before .step2 .given .1)
+returns-3 c = bad _ _ _ _ _ _ _ _ _ _ _ _ (c .before .step2 .given .1)
 
 returns-4 : tie.Need-returns-4
-returns-4 c = damaged _ _ _ _ _ _ _ _ _ (c .before .step3 .given .1)
+returns-4 c = damaged _ _ _ _ _ _ _ _ _ _ _ _ (c .before .step3 .given .1)
 
 same-length : tie.Need-same-length
 same-length c = search needs
@@ -55,9 +55,15 @@ same-length-5 c = search needs
 same-length-6 : tie.Need-same-length-6
 same-length-6 c = search needs
 
+same-length-7 : tie.Need-same-length-7
+same-length-7 c = search needs
+
+same-length-8 : tie.Need-same-length-8
+same-length-8 c = search needs
+
 returns-5 : tie.Need-returns-5
 returns-5 c =
-    heard _ _ _ _ _ _ _ _ _ _ _ _ (c .before .before .before .before .before .before .before .before .before .before .before .before .before .before .before .before .before .before .before .before .before .step4 .given .1) (c .before .before .before .before .before .before .before .before .before .before .before .before .before .judge .ensures) (c .answer .ensures)
+    heard _ _ _ _ _ _ _ _ _ _ _ _ _ _ _ (c .before .before .before .before .before .before .before .before .before .before .before .before .before .before .before .before .before .before .before .before .before .before .before .before .before .before .before .step4 .given .1) (c .before .before .before .before .before .before .before .before .before .before .before .before .before .before .before .before .before .judge .ensures) (c .answer .ensures)
 
 pub hear-spec : {M : Type 1} → statement M
 hear-spec =
@@ -80,4 +86,6 @@ hear-spec =
     same-length-4
     same-length-5
     same-length-6
+    same-length-7
+    same-length-8
     returns-5)

@@ -76,16 +76,22 @@ watch-all-requires : tie.Need-watch-all-requires
 watch-all-requires c κs = search needs
 
 same-length : tie.Need-same-length
-same-length c = c .before .before .before .before .before .before .before .before .before .before .before .before .before .before .before .before .before .bank .given
+same-length c = c .before .before .before .before .before .before .before .before .before .before .before .before .before .before .before .before .before .before .before .before .before .bank .given
 
 same-length-2 : tie.Need-same-length-2
-same-length-2 c = c .before .before .before .before .before .before .before .before .before .before .before .before .before .before .before .bank-f .given
+same-length-2 c = c .before .before .before .before .before .before .before .before .before .before .before .before .before .before .before .before .before .before .before .bank-f .given
 
 same-length-3 : tie.Need-same-length-3
-same-length-3 c = c .before .before .before .before .before .before .before .before .before .before .before .before .before .gate .given
+same-length-3 c = c .before .before .before .before .before .before .before .before .before .before .before .before .before .before .before .before .before .worst .given
 
 same-length-4 : tie.Need-same-length-4
-same-length-4 c = c .before .before .before .before .before .before .before .before .before .before .before .gate-f .given
+same-length-4 c = c .before .before .before .before .before .before .before .before .before .before .before .before .before .before .before .worst-f .given
+
+same-length-5 : tie.Need-same-length-5
+same-length-5 c = c .before .before .before .before .before .before .before .before .before .before .before .before .before .gate .given
+
+same-length-6 : tie.Need-same-length-6
+same-length-6 c = c .before .before .before .before .before .before .before .before .before .before .before .gate-f .given
 
 returns : tie.Need-returns
 returns c = search needs
@@ -121,4 +127,6 @@ watch-hops-spec =
     same-length-2
     same-length-3
     same-length-4
+    same-length-5
+    same-length-6
     returns)

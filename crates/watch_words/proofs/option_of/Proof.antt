@@ -105,9 +105,19 @@ returns-10 : tie.Need-returns-10
 unfolding named
 returns-10 c = simp (sym (c .before .before .before .before .before .before .before .before .before .before .before .before .before .before .before .before .before .before .before .before .before .before .before .before .before .before .before .before .is .ensures) ∙ c .before .before .before .before .before .before .before .before .before .before .before .before .before .before .before .before .before .before .before .before .before .before .before .before .before .before .before .if1 .left, sym (c .before .before .before .before .before .before .before .before .before .before .before .before .before .before .before .before .before .before .before .before .before .before .before .before .before .is2 .ensures) ∙ c .before .before .before .before .before .before .before .before .before .before .before .before .before .before .before .before .before .before .before .before .before .before .before .before .if2 .left, sym (c .before .before .before .before .before .before .before .before .before .before .before .before .before .before .before .before .before .before .before .before .before .before .is3 .ensures) ∙ c .before .before .before .before .before .before .before .before .before .before .before .before .before .before .before .before .before .before .before .before .before .if3 .left, sym (c .before .before .before .before .before .before .before .before .before .before .before .before .before .before .before .before .before .before .before .is4 .ensures) ∙ c .before .before .before .before .before .before .before .before .before .before .before .before .before .before .before .before .before .before .if4 .left, sym (c .before .before .before .before .before .before .before .before .before .before .before .before .before .before .before .before .is5 .ensures) ∙ c .before .before .before .before .before .before .before .before .before .before .before .before .before .before .before .if5 .left, sym (c .before .before .before .before .before .before .before .before .before .before .before .before .before .is6 .ensures) ∙ c .before .before .before .before .before .before .before .before .before .before .before .before .if6 .left, sym (c .before .before .before .before .before .before .before .before .before .before .is7 .ensures) ∙ c .before .before .before .before .before .before .before .before .before .if7 .left, sym (c .before .before .before .before .before .before .before .is8 .ensures) ∙ c .before .before .before .before .before .before .if8 .left, sym (c .before .before .before .before .is9 .ensures) ∙ c .before .before .before .if9 .left, sym (c .before .is10 .ensures) ∙ c .if10 .taken)
 
+slice-aggregate-is-11 : tie.Need-slice-aggregate-is-11
+slice-aggregate-is-11 c = search needs
+
+is-requires-11 : tie.Need-is-requires-11
+is-requires-11 c κs = search needs
+
 returns-11 : tie.Need-returns-11
 unfolding named
-returns-11 c = simp (sym (c .before .before .before .before .before .before .before .before .before .before .before .before .before .before .before .before .before .before .before .before .before .before .before .before .before .before .before .before .is .ensures) ∙ c .before .before .before .before .before .before .before .before .before .before .before .before .before .before .before .before .before .before .before .before .before .before .before .before .before .before .before .if1 .left, sym (c .before .before .before .before .before .before .before .before .before .before .before .before .before .before .before .before .before .before .before .before .before .before .before .before .before .is2 .ensures) ∙ c .before .before .before .before .before .before .before .before .before .before .before .before .before .before .before .before .before .before .before .before .before .before .before .before .if2 .left, sym (c .before .before .before .before .before .before .before .before .before .before .before .before .before .before .before .before .before .before .before .before .before .before .is3 .ensures) ∙ c .before .before .before .before .before .before .before .before .before .before .before .before .before .before .before .before .before .before .before .before .before .if3 .left, sym (c .before .before .before .before .before .before .before .before .before .before .before .before .before .before .before .before .before .before .before .is4 .ensures) ∙ c .before .before .before .before .before .before .before .before .before .before .before .before .before .before .before .before .before .before .if4 .left, sym (c .before .before .before .before .before .before .before .before .before .before .before .before .before .before .before .before .is5 .ensures) ∙ c .before .before .before .before .before .before .before .before .before .before .before .before .before .before .before .if5 .left, sym (c .before .before .before .before .before .before .before .before .before .before .before .before .before .is6 .ensures) ∙ c .before .before .before .before .before .before .before .before .before .before .before .before .if6 .left, sym (c .before .before .before .before .before .before .before .before .before .before .is7 .ensures) ∙ c .before .before .before .before .before .before .before .before .before .if7 .left, sym (c .before .before .before .before .before .before .before .is8 .ensures) ∙ c .before .before .before .before .before .before .if8 .left, sym (c .before .before .before .before .is9 .ensures) ∙ c .before .before .before .if9 .left, sym (c .before .is10 .ensures) ∙ c .if10 .left)
+returns-11 c = simp (sym (c .before .before .before .before .before .before .before .before .before .before .before .before .before .before .before .before .before .before .before .before .before .before .before .before .before .before .before .before .before .before .before .is .ensures) ∙ c .before .before .before .before .before .before .before .before .before .before .before .before .before .before .before .before .before .before .before .before .before .before .before .before .before .before .before .before .before .before .if1 .left, sym (c .before .before .before .before .before .before .before .before .before .before .before .before .before .before .before .before .before .before .before .before .before .before .before .before .before .before .before .before .is2 .ensures) ∙ c .before .before .before .before .before .before .before .before .before .before .before .before .before .before .before .before .before .before .before .before .before .before .before .before .before .before .before .if2 .left, sym (c .before .before .before .before .before .before .before .before .before .before .before .before .before .before .before .before .before .before .before .before .before .before .before .before .before .is3 .ensures) ∙ c .before .before .before .before .before .before .before .before .before .before .before .before .before .before .before .before .before .before .before .before .before .before .before .before .if3 .left, sym (c .before .before .before .before .before .before .before .before .before .before .before .before .before .before .before .before .before .before .before .before .before .before .is4 .ensures) ∙ c .before .before .before .before .before .before .before .before .before .before .before .before .before .before .before .before .before .before .before .before .before .if4 .left, sym (c .before .before .before .before .before .before .before .before .before .before .before .before .before .before .before .before .before .before .before .is5 .ensures) ∙ c .before .before .before .before .before .before .before .before .before .before .before .before .before .before .before .before .before .before .if5 .left, sym (c .before .before .before .before .before .before .before .before .before .before .before .before .before .before .before .before .is6 .ensures) ∙ c .before .before .before .before .before .before .before .before .before .before .before .before .before .before .before .if6 .left, sym (c .before .before .before .before .before .before .before .before .before .before .before .before .before .is7 .ensures) ∙ c .before .before .before .before .before .before .before .before .before .before .before .before .if7 .left, sym (c .before .before .before .before .before .before .before .before .before .before .is8 .ensures) ∙ c .before .before .before .before .before .before .before .before .before .if8 .left, sym (c .before .before .before .before .before .before .before .is9 .ensures) ∙ c .before .before .before .before .before .before .if9 .left, sym (c .before .before .before .before .is10 .ensures) ∙ c .before .before .before .if10 .left, sym (c .before .is11 .ensures) ∙ c .if11 .taken)
+
+returns-12 : tie.Need-returns-12
+unfolding named
+returns-12 c = simp (sym (c .before .before .before .before .before .before .before .before .before .before .before .before .before .before .before .before .before .before .before .before .before .before .before .before .before .before .before .before .before .before .before .is .ensures) ∙ c .before .before .before .before .before .before .before .before .before .before .before .before .before .before .before .before .before .before .before .before .before .before .before .before .before .before .before .before .before .before .if1 .left, sym (c .before .before .before .before .before .before .before .before .before .before .before .before .before .before .before .before .before .before .before .before .before .before .before .before .before .before .before .before .is2 .ensures) ∙ c .before .before .before .before .before .before .before .before .before .before .before .before .before .before .before .before .before .before .before .before .before .before .before .before .before .before .before .if2 .left, sym (c .before .before .before .before .before .before .before .before .before .before .before .before .before .before .before .before .before .before .before .before .before .before .before .before .before .is3 .ensures) ∙ c .before .before .before .before .before .before .before .before .before .before .before .before .before .before .before .before .before .before .before .before .before .before .before .before .if3 .left, sym (c .before .before .before .before .before .before .before .before .before .before .before .before .before .before .before .before .before .before .before .before .before .before .is4 .ensures) ∙ c .before .before .before .before .before .before .before .before .before .before .before .before .before .before .before .before .before .before .before .before .before .if4 .left, sym (c .before .before .before .before .before .before .before .before .before .before .before .before .before .before .before .before .before .before .before .is5 .ensures) ∙ c .before .before .before .before .before .before .before .before .before .before .before .before .before .before .before .before .before .before .if5 .left, sym (c .before .before .before .before .before .before .before .before .before .before .before .before .before .before .before .before .is6 .ensures) ∙ c .before .before .before .before .before .before .before .before .before .before .before .before .before .before .before .if6 .left, sym (c .before .before .before .before .before .before .before .before .before .before .before .before .before .is7 .ensures) ∙ c .before .before .before .before .before .before .before .before .before .before .before .before .if7 .left, sym (c .before .before .before .before .before .before .before .before .before .before .is8 .ensures) ∙ c .before .before .before .before .before .before .before .before .before .if8 .left, sym (c .before .before .before .before .before .before .before .is9 .ensures) ∙ c .before .before .before .before .before .before .if9 .left, sym (c .before .before .before .before .is10 .ensures) ∙ c .before .before .before .if10 .left, sym (c .before .is11 .ensures) ∙ c .if11 .left)
 
 pub option-of-spec : {M : Type 1} → statement M
 option-of-spec =
@@ -143,4 +153,7 @@ option-of-spec =
     slice-aggregate-is-10
     is-requires-10
     returns-10
-    returns-11)
+    slice-aggregate-is-11
+    is-requires-11
+    returns-11
+    returns-12)

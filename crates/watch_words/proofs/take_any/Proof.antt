@@ -65,11 +65,17 @@ awaiting-requires-5 c κs = search needs
 enum-told-10 : tie.Need-enum-told-10
 enum-told-10 c = search needs
 
-faulty-requires : tie.Need-faulty-requires
-faulty-requires c κs = search needs
+awaiting-requires-6 : tie.Need-awaiting-requires-6
+awaiting-requires-6 c κs = search needs
 
 enum-told-11 : tie.Need-enum-told-11
 enum-told-11 c = search needs
+
+faulty-requires : tie.Need-faulty-requires
+faulty-requires c κs = search needs
+
+enum-told-12 : tie.Need-enum-told-12
+enum-told-12 c = search needs
 
 with-file-requires : tie.Need-with-file-requires
 with-file-requires c κs = search needs
@@ -122,12 +128,17 @@ returns-9 c = let s = c .before .before .before .before .before .args in
 returns-10 : tie.Need-returns-10
 unfolding anyTaken
 returns-10 c = let s = c .before .before .before .before .before .args in
-    c .faulty .ensures ∙ ap (anyTaken (s .s) (s .i)) (sym (c .before .enum-told10 .given .1) ∙ c .before .before .before .word-of .ensures)
+    c .awaiting6 .ensures ∙ ap (anyTaken (s .s) (s .i)) (sym (c .before .enum-told10 .given .1) ∙ c .before .before .before .word-of .ensures)
 
 returns-11 : tie.Need-returns-11
 unfolding anyTaken
 returns-11 c = let s = c .before .before .before .before .before .args in
-    c .with-file .ensures ∙ ap (anyTaken (s .s) (s .i)) (sym (c .before .enum-told11 .given .1) ∙ c .before .before .before .word-of .ensures)
+    c .faulty .ensures ∙ ap (anyTaken (s .s) (s .i)) (sym (c .before .enum-told11 .given .1) ∙ c .before .before .before .word-of .ensures)
+
+returns-12 : tie.Need-returns-12
+unfolding anyTaken
+returns-12 c = let s = c .before .before .before .before .before .args in
+    c .with-file .ensures ∙ ap (anyTaken (s .s) (s .i)) (sym (c .before .enum-told12 .given .1) ∙ c .before .before .before .word-of .ensures)
 
 pub take-any-spec : {M : Type 1} → statement M
 take-any-spec =
@@ -153,8 +164,10 @@ take-any-spec =
     enum-told-9
     awaiting-requires-5
     enum-told-10
-    faulty-requires
+    awaiting-requires-6
     enum-told-11
+    faulty-requires
+    enum-told-12
     with-file-requires
     returns
     returns-2
@@ -166,4 +179,5 @@ take-any-spec =
     returns-8
     returns-9
     returns-10
-    returns-11)
+    returns-11
+    returns-12)

@@ -7,10 +7,10 @@ use Rattle.watch_report.proofs.lines.print_rows.Statement.{statement}
 use Rattle.watch_report.proofs.lines.print_rows.Tie as tie
 
 abbrev Inv-loop : tie.InvT-loop
-Inv-loop hop s db bank bank-f gate gate-f alive events rise drop k₀ k-end k = (k-end ≡ length alive) × (k-end < 18446744073709551616)
+Inv-loop hop s db bank bank-f worst worst-f gate gate-f alive events rise drop k₀ k-end k = (k-end ≡ length alive) × (k-end < 18446744073709551616)
 
 abbrev μ-loop : tie.MeasureT-loop
-μ-loop hop s db bank bank-f gate gate-f alive events rise drop k₀ k-end k = k-end - k
+μ-loop hop s db bank bank-f worst worst-f gate gate-f alive events rise drop k₀ k-end k = k-end - k
 
 loop-holds : tie.Need-loop-holds Inv-loop μ-loop
 loop-holds c = search needs

@@ -1,15 +1,16 @@
+use native.Mathlib.Omega.{arith}
 use mathlib.Core.Path.{_≡_}
-use Prim.Native.Nat.{_-_}
+use Prim.Native.Nat.{_-_, _<_}
 use lib.ListN.{length}
 use borrow.Author.Needs.{needs}
 use Rattle.watch_report.proofs.tail.print_tail.Statement.{statement}
 use Rattle.watch_report.proofs.tail.print_tail.Tie as tie
 
 abbrev Inv-loop : tie.InvT-loop
-Inv-loop s hops bank bank-f alive alive-hops rises k₀ k-end k = k-end ≡ length alive
+Inv-loop s hops bank bank-f worst worst-f alive alive-hops rises k₀ k-end k = (k-end ≡ length alive) × (k-end < 18446744073709551616)
 
 abbrev μ-loop : tie.MeasureT-loop
-μ-loop s hops bank bank-f alive alive-hops rises k₀ k-end k = k-end - k
+μ-loop s hops bank bank-f worst worst-f alive alive-hops rises k₀ k-end k = k-end - k
 
 returns : tie.Need-returns Inv-loop μ-loop
 returns c = search needs
@@ -33,7 +34,7 @@ print-channel-requires : tie.Need-print-channel-requires Inv-loop μ-loop
 print-channel-requires c κs = search needs
 
 add-k : tie.Need-add-k Inv-loop μ-loop
-add-k c = search needs
+add-k c = omega (arith, c .before .before .before .before .loop-test .taken, c .before .before .before .before .before .loop .inv .1)
 
 loop-less : tie.Need-loop-less Inv-loop μ-loop
 loop-less c = search needs

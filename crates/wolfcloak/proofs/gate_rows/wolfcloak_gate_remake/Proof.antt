@@ -4,7 +4,7 @@ use lib.IntN.{ℤ}
 use borrow.Author.Needs.{needs}
 use Rattle.roles.specs.Rights.{gate-remake}
 use Rattle.roles.proofs.Roles.{stopped, granted}
-use Rattle.gate_remake.specs.Remake.{gateRemake}
+use Rattle.model.specs.Remake.{gateRemake}
 use Rattle.gate_making.proofs.Levels.{three-read}
 use Rattle.wolfcloak.proofs.gate_rows.wolfcloak_gate_remake.Statement.{statement}
 use Rattle.wolfcloak.proofs.gate_rows.wolfcloak_gate_remake.Tie as tie
