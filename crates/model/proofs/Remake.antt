@@ -67,8 +67,10 @@ module _ (u : List ℕ) (f : List Float) (r : GateReady u f) where
       let s = sizes u f r in
       let few : within 1 8 (length (lengthsIn u)) ≡ true =
       ap (within 1 8) (length-tab count (mAt u)) ∙ in-bounds 1 8 count (inside 1 8 count (s .some) (s .few)) in
-      rw (few,
-      within-from 0 count (mAt u) (λ j l h. let g = look-good u f j r (omega arith) in in-bounds 1 375 (mAt u j) (inside 1 375 (mAt u j) (g .some) (g .few))))
+      rw (
+        few,
+        within-from 0 count (mAt u) (λ j l h. let g = look-good u f j r (omega arith) in in-bounds 1 375 (mAt u j) (inside 1 375 (mAt u j) (g .some) (g .few))),
+      )
 
   pub floats-same : floatsFor (getD u 0 0) (distinct [] (lengthsIn u)) ≡ gateFLen u
   floats-same =
@@ -82,8 +84,12 @@ module _ (u : List ℕ) (f : List Float) (r : GateReady u f) where
   unfolding gateMakeRefusal
   makes on off early =
       let s = sizes u f r in
-      rw (inside 1 512 (getD u 0 0) (s .low) (s .high), lengths-taken, r .long,
-      eq-eqb (length f) (floatsFor (getD u 0 0) (distinct [] (lengthsIn u))) (r .long-f ∙ sym floats-same))
+      rw (
+        inside 1 512 (getD u 0 0) (s .low) (s .high),
+        lengths-taken,
+        r .long,
+        eq-eqb (length f) (floatsFor (getD u 0 0) (distinct [] (lengthsIn u))) (r .long-f ∙ sym floats-same),
+      )
 
 pub remade : Remade
 unfolding gateRemake remakeRefusal gateNew

@@ -91,17 +91,17 @@ module _ (k : Making) (s : Stores) (bs : List Hop) (gs : List GateHop) (d : Hear
   fresh-as =
       ap₂
       (λ (n : ℕ) (ms : List ℕ).
-        record {
-          n = n;
-          started = 0;
-          on = stored on;
-          off = stored off;
-          early = stored early;
-          looks = map (freshLook n) ms;
-          smooth = replicate n f0;
-          used = replicate n nan;
-          threshold = replicate n f0;
-        }
+      record {
+        n = n;
+        started = 0;
+        on = stored on;
+        off = stored off;
+        early = stored early;
+        looks = map (freshLook n) ms;
+        smooth = replicate n f0;
+        used = replicate n nan;
+        threshold = replicate n f0;
+      }
       ) n-stored (lengths-distinct (s .gu) (s .gf) ready ∙ lengths-heard)
 
   -- the set with the gate remade, where making takes the levels
