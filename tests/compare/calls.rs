@@ -4,12 +4,13 @@ use crate::explain::explain;
 use crate::floor::{FloorBank, Gate};
 use crate::layout::place;
 use crate::linear_rows;
+use crate::roles::stopped_or;
 use crate::rules::{
-    refusal, Rule, GATE_FLOATS, GATE_HOLD, GATE_MAKING, GATE_READ, GATE_SOUND, GATE_STORE, GATE_UPDATE, GATE_UPDATE_LINEAR, MAKING,
-    PAIR, READ, SOUND, STORE, UPDATE, UPDATE_LINEAR,
+    refusal, Rule, GATE_FLOATS, GATE_HOLD, GATE_MAKING, GATE_READ, GATE_REMAKING, GATE_SOUND, GATE_STORE, GATE_UPDATE, GATE_UPDATE_LINEAR,
+    MAKING, PAIR, READ, SOUND, STORE, UPDATE, UPDATE_LINEAR,
 };
 use crate::tally::Tally;
-use crate::wolfcloak as lib;
+use crate::wolfcloak::{self as lib, KEEPER, LEADER, TECHNICIAN};
 use std::fmt::Arguments;
 
 #[derive(Clone, Copy, Default)]
@@ -144,36 +145,48 @@ impl Lent {
     }
 }
 
-/// Every function with these arguments.
+/// Every function with these arguments, in the role that the library is called in.
 pub fn every_call(t: &mut Tally, what: Arguments, l: &Lent) {
     let c = l.call();
     making(t, format_args!("{what}: bank_new"), l);
     gate_making(t, format_args!("{what}: gate_new"), l);
     let then = |first: u16, rules: &[Rule]| if first != 0 { first } else { refusal(&c, &[rules]) };
     let bank = refusal(&c, &[&STORE, &SOUND]);
-    update(t, format_args!("{what}: bank_update {:?}", l.hold), l, then(bank, &UPDATE));
-    update_linear(t, format_args!("{what}: bank_update_linear {:?}", l.hold), l, then(bank, &UPDATE_LINEAR));
-    readings(t, what, &c, then(bank, &READ));
+    update(t, format_args!("{what}: bank_update {:?}", l.hold), l, stopped_or(TECHNICIAN, then(bank, &UPDATE)));
+    update_linear(t, format_args!("{what}: bank_update_linear {:?}", l.hold), l, stopped_or(TECHNICIAN, then(bank, &UPDATE_LINEAR)));
+    readings(t, what, &c, stopped_or(KEEPER, then(bank, &READ)));
     let gate = refusal(&c, &[&GATE_STORE, &GATE_SOUND, &GATE_FLOATS]);
+    remaking(t, format_args!("{what}: gate_remake"), l, stopped_or(LEADER, then(gate, &GATE_REMAKING)));
     let both = then(if bank != 0 { bank } else { gate }, &PAIR);
-    gate_update(t, format_args!("{what}: gate_update"), l, then(both, &GATE_UPDATE));
-    gate_update_linear(t, format_args!("{what}: gate_update_linear"), l, then(both, &GATE_UPDATE_LINEAR));
-    gate_hold(t, format_args!("{what}: gate_hold"), l, then(both, &GATE_HOLD));
-    gate_readings(t, what, &c, then(gate, &GATE_READ), then(both, &GATE_READ));
+    gate_update(t, format_args!("{what}: gate_update"), l, stopped_or(TECHNICIAN, then(both, &GATE_UPDATE)));
+    gate_update_linear(t, format_args!("{what}: gate_update_linear"), l, stopped_or(TECHNICIAN, then(both, &GATE_UPDATE_LINEAR)));
+    gate_hold(t, format_args!("{what}: gate_hold"), l, stopped_or(TECHNICIAN, then(both, &GATE_HOLD)));
+    gate_readings(t, what, &c, stopped_or(KEEPER, then(gate, &GATE_READ)), stopped_or(KEEPER, then(both, &GATE_READ)));
 }
 
 pub fn making(t: &mut Tally, what: Arguments, l: &Lent) {
     let (mut u, mut f) = (l.u.clone(), l.f.clone());
-    let due = refusal(&l.call(), &[&MAKING]);
+    let due = stopped_or(TECHNICIAN, refusal(&l.call(), &[&MAKING]));
     t.answer(what, lib::bank_new(&mut u[..l.u_len], &mut f[..l.f_len], l.n), due);
     l.compare_bank(t, what, &u, &f, (due == 0).then(|| FloorBank::new(l.n).to_stores()));
 }
 
 pub fn gate_making(t: &mut Tally, what: Arguments, l: &Lent) {
     let (mut g, mut f) = (l.gate.clone(), l.gate_f.clone());
-    let due = refusal(&l.call(), &[&GATE_MAKING]);
+    let due = stopped_or(TECHNICIAN, refusal(&l.call(), &[&GATE_MAKING]));
     t.answer(what, lib::gate_new(&mut g[..l.gate_len], &mut f[..l.gate_f_len], l.n, l.levels, &l.lengths), due);
     l.compare_gate(t, what, &g, &f, (due == 0).then(|| Gate::made(l.n, l.levels, &l.lengths).to_stores()));
+}
+
+/// of the gate its n and its lengths in their order stay, and with the levels it is as making leaves it.
+fn remaking(t: &mut Tally, what: Arguments, l: &Lent, due: u16) {
+    let (mut g, mut f) = (l.gate.clone(), l.gate_f.clone());
+    t.answer(what, lib::gate_remake(&mut g[..l.gate_len], &mut f[..l.gate_f_len], l.levels), due);
+    let made = || {
+        let lengths: Vec<u16> = l.gate[6..].chunks(3).take(l.gate[5] as usize).map(|t| t[0]).collect();
+        Gate::made(l.gate[0] as usize, l.levels, &lengths).to_stores()
+    };
+    l.compare_gate(t, what, &g, &f, (due == 0).then(made));
 }
 
 fn update(t: &mut Tally, what: Arguments, l: &Lent, due: u16) {

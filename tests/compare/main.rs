@@ -24,6 +24,7 @@ mod pairs;
 mod plain_antennas;
 mod plain_log;
 mod registers;
+mod roles;
 mod rules;
 mod rungs;
 mod runs;
@@ -42,9 +43,9 @@ use tally::Tally;
 
 const SIZES: [usize; 13] = [1, 2, 3, 4, 5, 6, 31, 32, 33, 64, 65, 511, 512];
 
-/// Job i: the making of banks and gates, the ladder, the hop logs, two antennas, the dispatcher and the registers, two histories, two lists of
-/// which one is louder, the worst floor of late over some span, arbitrary stores of some size, a run of some size and plan, or the dB of a part of
-/// all powers.
+/// Job i: the making of banks and gates, the ladder, the hop logs, two antennas, the roles, the dispatcher and the registers, two histories, two
+/// lists of which one is louder, the worst floor of late over some span, arbitrary stores of some size, a run of some size and plan, or the dB of a
+/// part of all powers.
 fn job(i: usize, seed: u64, alone: &mut Alone) -> Option<Tally> {
     let mut t = Tally::default();
     let mut rng = Rng(seed ^ (i as u64) << 32);
@@ -61,6 +62,7 @@ fn job(i: usize, seed: u64, alone: &mut Alone) -> Option<Tally> {
         decibels::each_rung(&mut t);
         logs::any_logs(&mut t, &mut rng);
         antennas::any_antennas(&mut t, &mut rng);
+        roles::each_role(&mut t, &mut rng);
         segments::all_ticks(&mut t);
         segments::fair_runs(&mut t, &mut rng);
         louder::no_more(&mut t);
