@@ -33,14 +33,14 @@ int main(void)
     static double bank_f[BANK_F_LEN], gate_f[GATE_F_LEN];
     int alive[CHANNELS] = {0};
 
-    take("bank_new", wolfcloak_bank_new(bank, BANK_LEN, bank_f, BANK_F_LEN, CHANNELS));
-    take("gate_new", wolfcloak_gate_new(gate, WOLFCLOAK_GATE_LEN, gate_f, GATE_F_LEN, CHANNELS, 72, 48, WOLFCLOAK_NO_EARLY, lengths, 1));
+    take("bank_new", wolfcloak_bank_new(ROLE, bank, BANK_LEN, bank_f, BANK_F_LEN, CHANNELS));
+    take("gate_new", wolfcloak_gate_new(ROLE, gate, WOLFCLOAK_GATE_LEN, gate_f, GATE_F_LEN, CHANNELS, 72, 48, WOLFCLOAK_NO_EARLY, lengths, 1));
     for (int hop = 0; hop < HOPS; hop++) {
         float power[CHANNELS];
         uint8_t rise[CHANNELS], drop[CHANNELS];
         hear(hop, power);
-        take("bank_update_linear", wolfcloak_bank_update_linear(bank, BANK_LEN, bank_f, BANK_F_LEN, power, CHANNELS, false));
-        take("gate_update_linear", wolfcloak_gate_update_linear(bank, BANK_LEN, bank_f, BANK_F_LEN, gate, WOLFCLOAK_GATE_LEN, gate_f, GATE_F_LEN,
+        take("bank_update_linear", wolfcloak_bank_update_linear(ROLE, bank, BANK_LEN, bank_f, BANK_F_LEN, power, CHANNELS, false));
+        take("gate_update_linear", wolfcloak_gate_update_linear(ROLE, bank, BANK_LEN, bank_f, BANK_F_LEN, gate, WOLFCLOAK_GATE_LEN, gate_f, GATE_F_LEN,
                                                                 power, CHANNELS, rise, CHANNELS, drop, CHANNELS));
         for (int k = 0; k < CHANNELS; k++) {
             int now = alive[k] ? !(drop[k] && !rise[k]) : rise[k];

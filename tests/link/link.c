@@ -347,16 +347,16 @@ static void linear_hops(void)
     expect("dB of infinity", wolfcloak_power_db(INFINITY), 400);
     expect("dB of a NaN", wolfcloak_power_db(NAN), -260);
     expect("dB below no power", wolfcloak_power_db(-1), -260);
-    expect("bank_new", wolfcloak_bank_new(with_db, TWO, with_db_f, 10, 2), WOLFCLOAK_OK);
-    expect("bank_new", wolfcloak_bank_new(linear, TWO, linear_f, 10, 2), WOLFCLOAK_OK);
+    expect("bank_new", wolfcloak_bank_new(me, with_db, TWO, with_db_f, 10, 2), WOLFCLOAK_OK);
+    expect("bank_new", wolfcloak_bank_new(me, linear, TWO, linear_f, 10, 2), WOLFCLOAK_OK);
     for (int g = 0; g < 2; g++)
-        expect("gate_new", wolfcloak_gate_new(gate[g], 30, gate_f[g], 14, 2, 8, 8, 80, lengths, 1), WOLFCLOAK_OK);
+        expect("gate_new", wolfcloak_gate_new(me, gate[g], 30, gate_f[g], 14, 2, 8, 8, 80, lengths, 1), WOLFCLOAK_OK);
     for (int hop = 0; hop < 20; hop++) {
-        expect("bank_update", wolfcloak_bank_update_holding_reference(with_db, TWO, with_db_f, 10, db, 2, loud, 2, hop % 3 == 0), WOLFCLOAK_OK);
-        expect("bank_update_linear", wolfcloak_bank_update_linear(linear, TWO, linear_f, 10, loud, 2, hop % 3 == 0), WOLFCLOAK_OK);
-        expect("gate_update", wolfcloak_gate_update(with_db, TWO, with_db_f, 10, gate[0], 30, gate_f[0], 14, db, 2, loud, 2,
+        expect("bank_update", wolfcloak_bank_update_holding_reference(me, with_db, TWO, with_db_f, 10, db, 2, loud, 2, hop % 3 == 0), WOLFCLOAK_OK);
+        expect("bank_update_linear", wolfcloak_bank_update_linear(me, linear, TWO, linear_f, 10, loud, 2, hop % 3 == 0), WOLFCLOAK_OK);
+        expect("gate_update", wolfcloak_gate_update(me, with_db, TWO, with_db_f, 10, gate[0], 30, gate_f[0], 14, db, 2, loud, 2,
                                                     rise[0], 2, drop[0], 2), WOLFCLOAK_OK);
-        expect("gate_update_linear", wolfcloak_gate_update_linear(linear, TWO, linear_f, 10, gate[1], 30, gate_f[1], 14, loud, 2,
+        expect("gate_update_linear", wolfcloak_gate_update_linear(me, linear, TWO, linear_f, 10, gate[1], 30, gate_f[1], 14, loud, 2,
                                                                   rise[1], 2, drop[1], 2), WOLFCLOAK_OK);
     }
     expect("the bank's words", memcmp(with_db, linear, sizeof linear), 0);
@@ -365,14 +365,14 @@ static void linear_hops(void)
     expect("the gate's floats", memcmp(gate_f[0], gate_f[1], sizeof gate_f[0]), 0);
     expect("rise", memcmp(rise[0], rise[1], 2), 0);
     expect("drop", memcmp(drop[0], drop[1], 2), 0);
-    expect("map_new", wolfcloak_map_new(gate[1], 30, gate_f[1], 14, map, 3), WOLFCLOAK_OK);
-    expect("gate_update_linear_map", wolfcloak_gate_update_linear_map(linear, TWO, linear_f, 10, gate[1], 30, gate_f[1], 14, map, 3, loud, 2,
+    expect("map_new", wolfcloak_map_new(me, gate[1], 30, gate_f[1], 14, map, 3), WOLFCLOAK_OK);
+    expect("gate_update_linear_map", wolfcloak_gate_update_linear_map(me, linear, TWO, linear_f, 10, gate[1], 30, gate_f[1], 14, map, 3, loud, 2,
                                                                       rise[1], 2, drop[1], 2), WOLFCLOAK_OK);
     expect("rise flags", map[0], rise[1][0] + 2 * rise[1][1]);
     expect("drop flags", map[1], drop[1][0] + 2 * drop[1][1]);
     linear[1] = 0;
-    expect("a NaN power on a slow hop", wolfcloak_bank_update_linear(linear, TWO, linear_f, 10, garbled, 2, false), WOLFCLOAK_OK);
-    expect("a power too few", wolfcloak_bank_update_linear(linear, TWO, linear_f, 10, loud, 1, false), WOLFCLOAK_REFUSED_HOP_SIZE);
+    expect("a NaN power on a slow hop", wolfcloak_bank_update_linear(me, linear, TWO, linear_f, 10, garbled, 2, false), WOLFCLOAK_OK);
+    expect("a power too few", wolfcloak_bank_update_linear(me, linear, TWO, linear_f, 10, loud, 1, false), WOLFCLOAK_REFUSED_HOP_SIZE);
 }
 
 /* A role that lacks the right gets 16 before what else is due, and nothing is written. */

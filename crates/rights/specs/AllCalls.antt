@@ -9,6 +9,7 @@ use Rattle.model.specs.Calls.{bankNew}
 use Rattle.model.specs.GateCalls.{GateHop, gateNew}
 use Rattle.model.specs.WorstCalls.{worstNew, updateIf}
 use Rattle.model.specs.MapCalls.{mapNew, mapWrite, gateUpdateIf, gateHoldIf}
+use Rattle.model.specs.Decibels.{linearHop, linearGateHop}
 use Rattle.model.specs.Remake.{gateRemake}
 use Rattle.roles.specs.Rights as rights
 use Rattle.roles.specs.Rights.{Exported, asRole}
@@ -53,6 +54,10 @@ pub data Deed : Type 0 where
   map-read : ℕ → Deed
   map-write : ℕ → ℕ → Deed
   map-wire : Deed
+  bank-update-linear : Bool → List Float → Deed
+  gate-update-linear : List Float → List ℕ → List ℕ → Deed
+  bank-update-linear-worst : Bool → List Float → Deed
+  gate-update-linear-map : List Float → List ℕ → List ℕ → Deed
 
 abbrev pub named : Deed → Exported
 named (bank-new n) = rights.bank-new
@@ -85,6 +90,10 @@ named (gate-hold-map rise drop) = rights.gate-hold-map
 named (map-read address) = rights.map-read
 named (map-write address value) = rights.map-write
 named map-wire = rights.map-wire
+named (bank-update-linear held power) = rights.bank-update-linear
+named (gate-update-linear power rise drop) = rights.gate-update-linear
+named (bank-update-linear-worst held power) = rights.bank-update-linear-worst
+named (gate-update-linear-map power rise drop) = rights.gate-update-linear-map
 
 -- ---- what a call leaves, by its definition
 
@@ -149,6 +158,10 @@ does e (gate-hold-map rise drop) = gateHeld true rise drop e
 does e (map-read address) = e
 does e (map-write address value) = gated e (e .set .gu) (e .set .gf) (mapWrite (e .set .gu) (e .set .gf) (e .set .map) address value .1)
 does e map-wire = e
+does e (bank-update-linear held power) = updated false (linearHop held power) e
+does e (gate-update-linear power rise drop) = gateUpdated false (linearGateHop power) rise drop e
+does e (bank-update-linear-worst held power) = updated true (linearHop held power) e
+does e (gate-update-linear-map power rise drop) = gateUpdated true (linearGateHop power) rise drop e
 
 -- ---- lists of calls, each lent what the call before left
 
