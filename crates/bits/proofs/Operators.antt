@@ -119,3 +119,4 @@ low-is (suc (suc (suc (suc (suc (suc zero)))))) h k = refl
 low-is (suc (suc (suc (suc (suc (suc (suc zero))))))) h k = refl
 low-is (suc (suc (suc (suc (suc (suc (suc (suc zero)))))))) h k = refl
 low-is (suc (suc (suc (suc (suc (suc (suc (suc (suc u))))))))) h k = absurd (omega arith)
+

@@ -1,4 +1,4 @@
--- Document 02's number and value for each case of an answer. "End" is no refusal and stands outside their range: 100.
+-- This paper's number and value for each case of an answer. "End" is no refusal and stands outside their range: 100.
 use Prim.Native.Nat.{ℕ}
 use Rattle.log_model.specs.declared.LogLength.{LogLength}
 use Rattle.log_model.specs.declared.LogLength.the-variants as L
