@@ -276,6 +276,38 @@ uint16_t wolfcloak_map_write(const uint16_t *gate, size_t gate_len, const double
 uint16_t wolfcloak_map_wire(const uint16_t *gate, size_t gate_len, const double *gate_f, size_t gate_f_len,
                             const uint8_t *map, size_t map_len, uint8_t *up);
 
+/* ---- linear power alone: for a receiver that delivers no dB ---- */
+
+/*
+ * The dB of a linear power, in eighths: the highest rung of a ladder from -260 to 400 dB whose power is at most power + 1e-20.
+ * -260 if none is or power is NaN; -200 for a power of 0; 400 for an infinite one.
+ */
+double wolfcloak_power_db(float power);
+
+/*
+ * One hop as for wolfcloak_bank_update_holding_reference, with the dB of each power as wolfcloak_power_db gives it.
+ * Refuses with 2 or 9 for the stores, then 5: none of these dB is a NaN, so never with 6.
+ */
+uint16_t wolfcloak_bank_update_linear(uint16_t *bank, size_t bank_len, double *bank_f, size_t bank_f_len,
+                                      const float *power, size_t power_len, bool hold_reference);
+
+/* One hop as for wolfcloak_gate_update, with the same dB. Refuses as that does. */
+uint16_t wolfcloak_gate_update_linear(const uint16_t *bank, size_t bank_len, const double *bank_f, size_t bank_f_len,
+                                      uint16_t *gate, size_t gate_len, double *gate_f, size_t gate_f_len,
+                                      const float *power, size_t power_len,
+                                      uint8_t *rise, size_t rise_len, uint8_t *drop, size_t drop_len);
+
+/* One hop as for wolfcloak_gate_update_map, with the same dB. Refuses as that does. */
+uint16_t wolfcloak_gate_update_linear_map(const uint16_t *bank, size_t bank_len, const double *bank_f, size_t bank_f_len,
+                                          uint16_t *gate, size_t gate_len, double *gate_f, size_t gate_f_len,
+                                          uint8_t *map, size_t map_len, const float *power, size_t power_len,
+                                          uint8_t *rise, size_t rise_len, uint8_t *drop, size_t drop_len);
+
+/* One hop as for wolfcloak_bank_update_worst, with the same dB. Refuses as that does, but never with 6. */
+uint16_t wolfcloak_bank_update_linear_worst(uint16_t *bank, size_t bank_len, double *bank_f, size_t bank_f_len,
+                                            uint16_t *worst, size_t worst_len, double *worst_f, size_t worst_f_len,
+                                            const float *power, size_t power_len, bool hold_reference);
+
 /* ---- the hop log: what a set heard, hop by hop, only what changed ---- */
 
 /*

@@ -8,6 +8,9 @@ mod floor;
 #[allow(dead_code)]
 #[path = "../compare/layout.rs"]
 mod layout;
+mod linear;
+#[path = "../compare/linear_rows.rs"]
+mod linear_rows;
 #[path = "../compare/map_rows.rs"]
 mod map_rows;
 #[allow(dead_code)]
@@ -230,6 +233,8 @@ fn main() {
     silence_rows(512, 600);
     gate_rows(32, 12);
     gate_rows(512, 6);
+    linear::rows(32, 3000);
+    linear::rows(512, 900);
     registers::rows(32, 6);
     registers::rows(512, 3);
     for n in [32, 512] {

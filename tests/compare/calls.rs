@@ -1,10 +1,12 @@
 // One set of arguments, lent to every function, and what is compared of each.
+use crate::decibels::plain_dbs;
 use crate::explain::explain;
 use crate::floor::{FloorBank, Gate};
 use crate::layout::place;
+use crate::linear_rows;
 use crate::rules::{
-    refusal, Rule, GATE_FLOATS, GATE_HOLD, GATE_MAKING, GATE_READ, GATE_SOUND, GATE_STORE, GATE_UPDATE, MAKING, PAIR, READ,
-    SOUND, STORE, UPDATE,
+    refusal, Rule, GATE_FLOATS, GATE_HOLD, GATE_MAKING, GATE_READ, GATE_SOUND, GATE_STORE, GATE_UPDATE, GATE_UPDATE_LINEAR, MAKING,
+    PAIR, READ, SOUND, STORE, UPDATE, UPDATE_LINEAR,
 };
 use crate::tally::Tally;
 use crate::wolfcloak as lib;
@@ -150,10 +152,12 @@ pub fn every_call(t: &mut Tally, what: Arguments, l: &Lent) {
     let then = |first: u16, rules: &[Rule]| if first != 0 { first } else { refusal(&c, &[rules]) };
     let bank = refusal(&c, &[&STORE, &SOUND]);
     update(t, format_args!("{what}: bank_update {:?}", l.hold), l, then(bank, &UPDATE));
+    update_linear(t, format_args!("{what}: bank_update_linear {:?}", l.hold), l, then(bank, &UPDATE_LINEAR));
     readings(t, what, &c, then(bank, &READ));
     let gate = refusal(&c, &[&GATE_STORE, &GATE_SOUND, &GATE_FLOATS]);
     let both = then(if bank != 0 { bank } else { gate }, &PAIR);
     gate_update(t, format_args!("{what}: gate_update"), l, then(both, &GATE_UPDATE));
+    gate_update_linear(t, format_args!("{what}: gate_update_linear"), l, then(both, &GATE_UPDATE_LINEAR));
     gate_hold(t, format_args!("{what}: gate_hold"), l, then(both, &GATE_HOLD));
     gate_readings(t, what, &c, then(gate, &GATE_READ), then(both, &GATE_READ));
 }
@@ -176,23 +180,51 @@ fn update(t: &mut Tally, what: Arguments, l: &Lent, due: u16) {
     let c = l.call();
     let (mut u, mut f) = (l.u.clone(), l.f.clone());
     t.answer(what, lib::bank_update(&mut u[..l.u_len], &mut f[..l.f_len], c.db, c.power, l.hold), due);
+    updated(t, what, l, (&u, &f), c.db, due);
+}
+
+/// the oracle's dB are the rungs of the powers.
+fn update_linear(t: &mut Tally, what: Arguments, l: &Lent, due: u16) {
+    let c = l.call();
+    let (mut u, mut f) = (l.u.clone(), l.f.clone());
+    t.answer(what, linear_rows::bank_update(&mut u[..l.u_len], &mut f[..l.f_len], c.power, l.hold == Some(true)), due);
+    updated(t, what, l, (&u, &f), &plain_dbs(c.power), due);
+}
+
+fn updated(t: &mut Tally, what: Arguments, l: &Lent, (u, f): (&[u16], &[f64]), db: &[f64], due: u16) {
+    let c = l.call();
     let stepped = || {
         let mut oracle = FloorBank::of_stores(c.u, c.f);
-        oracle.update_holding_reference(c.db, c.power, l.hold == Some(true));
+        oracle.update_holding_reference(db, c.power, l.hold == Some(true));
         oracle.to_stores()
     };
-    l.compare_bank(t, what, &u, &f, (due == 0).then(stepped));
+    l.compare_bank(t, what, u, f, (due == 0).then(stepped));
 }
 
 fn gate_update(t: &mut Tally, what: Arguments, l: &Lent, due: u16) {
     let c = l.call();
+    gate_updated(t, what, l, due, c.db, |stores, marks| lib::gate_update((c.u, c.f), stores, (c.db, c.power), marks));
+}
+
+/// R-13, as above.
+fn gate_update_linear(t: &mut Tally, what: Arguments, l: &Lent, due: u16) {
+    let c = l.call();
+    let db = plain_dbs(c.power);
+    gate_updated(t, what, l, due, &db, |stores, marks| linear_rows::gate_update((c.u, c.f), stores, c.power, marks));
+}
+
+type GateStores<'a> = (&'a mut [u16], &'a mut [f64]);
+type Marks<'a> = (&'a mut [u8], &'a mut [u8]);
+
+fn gate_updated(t: &mut Tally, what: Arguments, l: &Lent, due: u16, db: &[f64], call: impl Fn(GateStores, Marks) -> u16) {
+    let c = l.call();
     let (mut g, mut f, mut rise, mut drop) = (l.gate.clone(), l.gate_f.clone(), l.rise.clone(), l.drop.clone());
     let stores = (&mut g[..l.gate_len], &mut f[..l.gate_f_len]);
     let marks = (&mut rise[..l.rise_len], &mut drop[..l.drop_len]);
-    t.answer(what, lib::gate_update((c.u, c.f), stores, (c.db, c.power), marks), due);
+    t.answer(what, call(stores, marks), due);
     let stepped = || {
         let mut gate = Gate::of_stores(c.gate, c.gate_f);
-        let marks = gate.update(c.db, c.power, &FloorBank::of_stores(c.u, c.f));
+        let marks = gate.update(db, c.power, &FloorBank::of_stores(c.u, c.f));
         (gate.to_stores(), marks)
     };
     let (stores, marks) = (due == 0).then(stepped).unzip();

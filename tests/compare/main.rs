@@ -6,6 +6,7 @@ mod bottom;
 mod calls;
 #[path = "build/channelizer.rs"]
 mod channelizer;
+mod decibels;
 mod explain;
 mod faults;
 #[allow(dead_code)]
@@ -13,6 +14,7 @@ mod faults;
 mod floor;
 mod history;
 mod layout;
+mod linear_rows;
 mod log_rows;
 mod logs;
 mod louder;
@@ -41,7 +43,8 @@ use tally::Tally;
 const SIZES: [usize; 13] = [1, 2, 3, 4, 5, 6, 31, 32, 33, 64, 65, 511, 512];
 
 /// Job i: the making of banks and gates, the ladder, the hop logs, two antennas, the dispatcher and the registers, two histories, two lists of
-/// which one is louder, the worst floor of late over some span, arbitrary stores of some size, or a run of some size and plan.
+/// which one is louder, the worst floor of late over some span, arbitrary stores of some size, a run of some size and plan, or the dB of a part of
+/// all powers.
 fn job(i: usize, seed: u64, alone: &mut Alone) -> Option<Tally> {
     let mut t = Tally::default();
     let mut rng = Rng(seed ^ (i as u64) << 32);
@@ -55,6 +58,7 @@ fn job(i: usize, seed: u64, alone: &mut Alone) -> Option<Tally> {
         bottom::every_edge(&mut t);
         rungs::each_rung(&mut t);
         rungs::any_s(&mut t, &mut rng);
+        decibels::each_rung(&mut t);
         logs::any_logs(&mut t, &mut rng);
         antennas::any_antennas(&mut t, &mut rng);
         segments::all_ticks(&mut t);
@@ -80,7 +84,11 @@ fn job(i: usize, seed: u64, alone: &mut Alone) -> Option<Tally> {
         (0..6000 / (n + 10)).for_each(|_| explain::any_sides(&mut t, n, &mut rng));
     } else {
         let run = i - spans - SIZES.len() - 1;
-        let n = *SIZES.get(run / PLANS.len())?;
+        let Some(&n) = SIZES.get(run / PLANS.len()) else {
+            let part = run - PLANS.len() * SIZES.len();
+            decibels::spread(&mut t, (part < decibels::PARTS).then_some(part)?, seed);
+            return Some(t);
+        };
         runs::run(&mut t, n, &PLANS[run % PLANS.len()], LENGTHS[run % LENGTHS.len()], &mut rng, alone);
     }
     Some(t)

@@ -2,6 +2,7 @@
 // that carry the map and that don't, each fault alone and with each other.
 use crate::faults::{any_bank, any_gate};
 use crate::layout::DECIMATION_HOPS;
+use crate::linear_rows as linear;
 use crate::map_rows as map;
 use crate::numbers::{any_f32, any_f64, any_lengths, any_levels, same, Rng};
 use crate::tally::Tally;
@@ -140,7 +141,7 @@ pub fn any_list(t: &mut Tally, n: usize, rng: &mut Rng) {
         let (db, power): (Vec<f64>, Vec<f32>) = (0..n).map(|_| (any_f64(rng), any_f32(rng))).unzip();
         let mut other = s.clone();
         let (bank, carries) = ((&s.bank.0[..], &s.bank.1[..]), rng.below(4) > 0);
-        let (answer, plain_answer) = match rng.below(3) {
+        let (answer, plain_answer) = match rng.below(4) {
             0 => {
                 let value = rng.next() as u8;
                 let address = rng.below(s.map.len());
@@ -154,6 +155,12 @@ pub fn any_list(t: &mut Tally, n: usize, rng: &mut Rng) {
                 let marks = (&mut rise[..], &mut drop[..]);
                 let gate = (&mut s.gate.0[..], &mut s.gate.1[..]);
                 (if carries { map::update(bank, gate, &mut s.map, (&db, &power), marks) } else { lib::gate_update(bank, gate, (&db, &power), marks) }, without)
+            }
+            2 => {
+                let without = linear::gate_update(bank, (&mut other.gate.0, &mut other.gate.1), &power, (&mut plain_rise, &mut plain_drop));
+                let marks = (&mut rise[..], &mut drop[..]);
+                let gate = (&mut s.gate.0[..], &mut s.gate.1[..]);
+                (if carries { linear::gate_update_map(bank, gate, &mut s.map, &power, marks) } else { linear::gate_update(bank, gate, &power, marks) }, without)
             }
             _ => {
                 let without = lib::gate_hold(bank, (&other.gate.0, &mut other.gate.1), (&mut plain_rise, &mut plain_drop));
@@ -177,8 +184,11 @@ const FAULTS: [(&str, u16); 10] = [
     ("a bit past n", 9), ("another n", 8), ("slice length", 5), ("address", 15),
 ];
 
-/// Which of them a call can have: making, read, write, wire, update, hold.
-const HAS: [&[usize]; 6] = [&[2, 3, 4, 5], &[2, 3, 4, 5, 6, 9], &[2, 3, 4, 5, 6, 9], &[2, 3, 4, 5, 6], &[0, 1, 2, 3, 4, 5, 6, 7, 8], &[0, 1, 2, 3, 4, 5, 6, 7, 8]];
+/// Which of them a gate call can have that carries the map.
+const CARRIED: &[usize] = &[0, 1, 2, 3, 4, 5, 6, 7, 8];
+
+/// And each call: making, read, write, wire, update, hold, update from linear power alone.
+const HAS: [&[usize]; 7] = [&[2, 3, 4, 5], &[2, 3, 4, 5, 6, 9], &[2, 3, 4, 5, 6, 9], &[2, 3, 4, 5, 6], CARRIED, CARRIED, CARRIED];
 
 /// A call with two faults, which may be the same one: the first in the order is answered, and nothing changes.
 fn faulty(t: &mut Tally, n: usize, call: usize, wrong: [usize; 2], rng: &mut Rng) {
@@ -213,7 +223,12 @@ fn faulty(t: &mut Tally, n: usize, call: usize, wrong: [usize; 2], rng: &mut Rng
     }
     let mut long = [n; 4];
     if is(8) {
-        long[if call == 4 { rng.below(4) } else { 2 + rng.below(2) }] = rng.pick(&[n - 1, n + 1]);
+        let slice = match call {
+            4 => rng.below(4),
+            6 => 1 + rng.below(3),
+            _ => 2 + rng.below(2),
+        };
+        long[slice] = rng.pick(&[n - 1, n + 1]);
     }
     let address = if is(9) { 3 * w + rng.below(3) } else { rng.below(3 * w) };
     let due = wrong.iter().filter(|f| HAS[call].contains(f)).min().map(|&f| FAULTS[f].1).unwrap();
@@ -229,7 +244,8 @@ fn faulty(t: &mut Tally, n: usize, call: usize, wrong: [usize; 2], rng: &mut Rng
         2 => map::write(lent, &mut s.map, address, 255),
         3 => map::wire(lent, &s.map, &mut value),
         4 => map::update(bank, (&mut s.gate.0, &mut s.gate.1), &mut s.map, (&db, &power), marks),
-        _ => map::hold(bank, (&s.gate.0, &mut s.gate.1), &mut s.map, marks),
+        5 => map::hold(bank, (&s.gate.0, &mut s.gate.1), &mut s.map, marks),
+        _ => linear::gate_update_map(bank, (&mut s.gate.0, &mut s.gate.1), &mut s.map, &power, marks),
     };
     let names = wrong.map(|f| FAULTS[f].0);
     t.answer(format_args!("call {call} of {n} channels with {names:?}"), answer, due);

@@ -64,6 +64,9 @@ pub const UPDATE: [Rule; 3] = [
     rule("garbled", 6, |c| c.u[1] == 0 && garbled(c.db)),
 ];
 
+/// no dB is lent, and none that is worked out is a NaN.
+pub const UPDATE_LINEAR: [Rule; 1] = [rule("power length", 5, |c| c.power.len() != header(c))];
+
 pub const READ: [Rule; 1] = [rule("channel", 7, |c| c.k >= header(c))];
 
 // ---- the gate
@@ -125,6 +128,12 @@ pub const PAIR: [Rule; 1] = [rule("mismatch", 8, |c| c.u[0] != c.gate[0])];
 
 pub const GATE_UPDATE: [Rule; 4] = [
     rule("dB length", 5, |c| c.db.len() != c.gate[0] as usize),
+    rule("power length", 5, |c| c.power.len() != c.gate[0] as usize),
+    rule("rise length", 5, |c| c.rise.len() != c.gate[0] as usize),
+    rule("drop length", 5, |c| c.drop.len() != c.gate[0] as usize),
+];
+
+pub const GATE_UPDATE_LINEAR: [Rule; 3] = [
     rule("power length", 5, |c| c.power.len() != c.gate[0] as usize),
     rule("rise length", 5, |c| c.rise.len() != c.gate[0] as usize),
     rule("drop length", 5, |c| c.drop.len() != c.gate[0] as usize),

@@ -1,8 +1,10 @@
 // Long mixed lists of calls of a bank and a gate from fresh, beside floor.rs.
 use crate::calls::{gate_readings_of, readings_of, Call, Lent};
+use crate::decibels::plain_dbs;
 use crate::explain::as_stored;
 use crate::faults;
 use crate::floor::{FloorBank, Gate};
+use crate::linear_rows;
 use crate::numbers::{any_f64, any_levels, sample, Feed, Rng};
 use crate::pairs;
 use crate::rules::{garbled, Alone};
@@ -110,6 +112,22 @@ impl Both {
         let marks = (&mut self.rise[..], &mut self.drop[..]);
         let gate = (&mut self.gate[..], &mut self.gate_f[..]);
         t.answer(what, lib::gate_update((&self.u, &self.f), gate, (db, power), marks), 0);
+        self.gate_updated(t, what, db, power, whole);
+    }
+
+    /// the library is lent powers alone, and floor.rs their rungs.
+    pub fn linear_updates(&mut self, t: &mut Tally, what: Arguments, power: &[f32], hold: bool, whole: bool) {
+        let db = plain_dbs(power);
+        t.answer(what, linear_rows::bank_update(&mut self.u, &mut self.f, power, hold), 0);
+        self.old_bank.update_holding_reference(&db, power, hold);
+        self.compare_bank(t, what);
+        let marks = (&mut self.rise[..], &mut self.drop[..]);
+        let gate = (&mut self.gate[..], &mut self.gate_f[..]);
+        t.answer(what, linear_rows::gate_update((&self.u, &self.f), gate, power, marks), 0);
+        self.gate_updated(t, what, &db, power, whole);
+    }
+
+    fn gate_updated(&mut self, t: &mut Tally, what: Arguments, db: &[f64], power: &[f32], whole: bool) {
         let due = self.old_gate.update(db, power, &self.old_bank);
         self.compare_marks(t, what, due);
         self.compare_gate(t, what, whole);
@@ -160,14 +178,16 @@ pub fn run(t: &mut Tally, n: usize, plan: &Plan, lengths: &[u16], rng: &mut Rng,
         let (db, power): (Vec<f64>, Vec<f32>) = (0..n).map(|k| sample(rng, feed, hop, k)).unzip();
         let hold = rng.pick(&[None, None, Some(false), Some(true)]);
         let what = format_args!("n {n}, {levels:?}, {lengths:?}, hop {hop}");
-        let turn = rng.below(16);
-        if turn != 0 {
+        let whole = hop % 25 == 0 || both.gate_f.len() < 5000;
+        let turn = rng.below(20);
+        if (1..16).contains(&turn) {
             both.bank_update(t, what, &db, &power, hold);
         }
         match turn {
             1 => (),
             2 | 3 => both.gate_hold(t, what),
-            _ => both.gate_update(t, what, &db, &power, hop % 25 == 0 || both.gate_f.len() < 5000),
+            16.. => both.linear_updates(t, what, &power, hold == Some(true), whole),
+            _ => both.gate_update(t, what, &db, &power, whole),
         }
         t.channel_hops += n as u64;
         if t.differences > 1000 {

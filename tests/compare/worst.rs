@@ -1,5 +1,7 @@
 // the worst floor of late beside plain Rust that keeps every effective floor; each rule of its store broken alone, and the order
 // of its refusals.
+use crate::decibels::plain_dbs;
+use crate::linear_rows;
 use crate::numbers::{any_f64, sample, same, Feed, Rng};
 use crate::tally::Tally;
 use crate::wolfcloak as lib;
@@ -46,6 +48,15 @@ impl Set {
     }
 }
 
+/// an update from linear power alone is the one with the dB of its powers, refused or not.
+fn linear(t: &mut Tally, what: &str, s: &Set, power: &[f32], hold: bool) {
+    let (mut one, mut other) = (s.clone(), s.clone());
+    let answer = linear_rows::bank_update_worst((&mut one.u, &mut one.f), (&mut one.w, &mut one.g), power, hold);
+    t.answer(format_args!("{what}: linear"), answer, other.hear(true, &plain_dbs(power), power, hold));
+    let same = one.u == other.u && one.w == other.w && bits(&one.f) == bits(&other.f) && bits(&one.g) == bits(&other.g);
+    t.check(same, format_args!("{what}: linear power left another store"));
+}
+
 /// Document 01's maximum: a NaN is passed over, and of equal ones the first stays.
 fn greater(a: f64, b: f64) -> f64 {
     if a.is_nan() || a < b { b } else { a }
@@ -90,6 +101,9 @@ pub fn runs(t: &mut Tally, span: usize, rng: &mut Rng) {
             let mut alone = before.clone();
             let answer = s.hear(carries, &db, &power, hold);
             let what = format_args!("worst of late, n {n}, W {span}, hop {at}").to_string();
+            if rng.one_in(5) {
+                linear(t, &what, &before, &power, hold);
+            }
             t.answer(format_args!("{what}"), answer, alone.hear(false, &db, &power, hold));
             t.check(s.u == alone.u && bits(&s.f) == bits(&alone.f), format_args!("{what}: the bank noticed what it carries"));
             if answer == 0 && carries && slow {
@@ -170,9 +184,13 @@ pub fn refusals(t: &mut Tally) {
         t.answer(format_args!("a short hop with {w:?}, {}", g.len()), lent.hear(true, &[0.0], &[0.0; 2], false), late(5));
         t.answer(format_args!("a NaN with {w:?}, {}", g.len()), lent.hear(true, &[0.0, f64::NAN], &[0.0; 2], false), late(6));
         t.check(lent.w == w && lent.u == s.u, format_args!("refused with {w:?}: the stores"));
+        for powers in [0, 1, 2, 3, 512, 513, 4000] {
+            linear(t, &format!("{powers} powers with {w:?}, {}", g.len()), &lent, &vec![0.5; powers], false);
+        }
         // the bank's own refusals come before
         lent.u[1] = 15;
         t.answer(format_args!("an unsound bank beside {w:?}"), lent.worst(0).0, 9);
+        linear(t, &format!("an unsound bank beside {w:?}"), &lent, &[0.5; 600], true);
         lent.u.pop();
         t.answer(format_args!("a short bank beside {w:?}"), lent.hear(true, &[], &[], true), 2);
     }

@@ -1,5 +1,6 @@
 /* Makes banks and gates, feeds hops and reads floors and marks as firmware does; d and h are bench values of document 01. */
 #include "wolfcloak.h"
+#include <math.h>
 #include <stdio.h>
 #include <stdlib.h>
 #include <string.h>
@@ -322,6 +323,50 @@ static void registers(void)
     free(gate_f);
 }
 
+/* the same hops from linear power alone leave what the hops with their rungs leave; a NaN power is no NaN dB. */
+static void linear_hops(void)
+{
+    static const uint16_t lengths[1] = {1};
+    const float loud[2] = {1e-10f, 1e-6f}, garbled[2] = {NAN, 1};
+    const double db[2] = {wolfcloak_power_db(loud[0]), wolfcloak_power_db(loud[1])};
+    uint16_t with_db[TWO], linear[TWO], gate[2][WOLFCLOAK_GATE_LEN];
+    double with_db_f[10], linear_f[10], gate_f[2][14];
+    uint8_t rise[2][2] = {{9, 9}, {8, 8}}, drop[2][2] = {{9, 9}, {8, 8}}, map[3];
+
+    expect("dB of no power", wolfcloak_power_db(0), -200);
+    expect("dB of 1", wolfcloak_power_db(1), 0);
+    expect("dB of 2", wolfcloak_power_db(2), 3);
+    expect("dB of infinity", wolfcloak_power_db(INFINITY), 400);
+    expect("dB of a NaN", wolfcloak_power_db(NAN), -260);
+    expect("dB below no power", wolfcloak_power_db(-1), -260);
+    expect("bank_new", wolfcloak_bank_new(with_db, TWO, with_db_f, 10, 2), WOLFCLOAK_OK);
+    expect("bank_new", wolfcloak_bank_new(linear, TWO, linear_f, 10, 2), WOLFCLOAK_OK);
+    for (int g = 0; g < 2; g++)
+        expect("gate_new", wolfcloak_gate_new(gate[g], 30, gate_f[g], 14, 2, 8, 8, 80, lengths, 1), WOLFCLOAK_OK);
+    for (int hop = 0; hop < 20; hop++) {
+        expect("bank_update", wolfcloak_bank_update_holding_reference(with_db, TWO, with_db_f, 10, db, 2, loud, 2, hop % 3 == 0), WOLFCLOAK_OK);
+        expect("bank_update_linear", wolfcloak_bank_update_linear(linear, TWO, linear_f, 10, loud, 2, hop % 3 == 0), WOLFCLOAK_OK);
+        expect("gate_update", wolfcloak_gate_update(with_db, TWO, with_db_f, 10, gate[0], 30, gate_f[0], 14, db, 2, loud, 2,
+                                                    rise[0], 2, drop[0], 2), WOLFCLOAK_OK);
+        expect("gate_update_linear", wolfcloak_gate_update_linear(linear, TWO, linear_f, 10, gate[1], 30, gate_f[1], 14, loud, 2,
+                                                                  rise[1], 2, drop[1], 2), WOLFCLOAK_OK);
+    }
+    expect("the bank's words", memcmp(with_db, linear, sizeof linear), 0);
+    expect("the bank's floats", memcmp(with_db_f, linear_f, sizeof linear_f), 0);
+    expect("the gate's words", memcmp(gate[0], gate[1], sizeof gate[0]), 0);
+    expect("the gate's floats", memcmp(gate_f[0], gate_f[1], sizeof gate_f[0]), 0);
+    expect("rise", memcmp(rise[0], rise[1], 2), 0);
+    expect("drop", memcmp(drop[0], drop[1], 2), 0);
+    expect("map_new", wolfcloak_map_new(gate[1], 30, gate_f[1], 14, map, 3), WOLFCLOAK_OK);
+    expect("gate_update_linear_map", wolfcloak_gate_update_linear_map(linear, TWO, linear_f, 10, gate[1], 30, gate_f[1], 14, map, 3, loud, 2,
+                                                                      rise[1], 2, drop[1], 2), WOLFCLOAK_OK);
+    expect("rise flags", map[0], rise[1][0] + 2 * rise[1][1]);
+    expect("drop flags", map[1], drop[1][0] + 2 * drop[1][1]);
+    linear[1] = 0;
+    expect("a NaN power on a slow hop", wolfcloak_bank_update_linear(linear, TWO, linear_f, 10, garbled, 2, false), WOLFCLOAK_OK);
+    expect("a power too few", wolfcloak_bank_update_linear(linear, TWO, linear_f, 10, loud, 1, false), WOLFCLOAK_REFUSED_HOP_SIZE);
+}
+
 int main(void)
 {
     bench_d();
@@ -329,6 +374,7 @@ int main(void)
     hear_noise();
     window_rise();
     early_rise();
+    linear_hops();
     hop_log();
     two_antennas();
     worst_of_late();

@@ -21,6 +21,7 @@ use Rattle.gate_step.proofs.Looks.{holds-u, held-ready, held-is}
 use Rattle.gate_cursors.specs.Paired.{Paired, Marked}
 use Rattle.gate_cursors.proofs.Pairs.{paired}
 use Rattle.gate_step.specs.Steps.{Holds}
+use Rattle.gate.specs.Hops.{Takes, Taken}
 
 -- ---- what a call that is not refused has shown
 
@@ -33,21 +34,21 @@ module _ (bu : List ℕ) (bf : List Float) (gu : List ℕ) (gf : List Float) whe
       let t = passed (differ rise n || differ drop n) 5 0 (omega arith) (a .1) .0 in
       (paired bu bf gu gf (a .0), same-of rise n (or-l (differ rise n) (differ drop n) t), same-of drop n (or-r (differ rise n) (differ drop n) t))
 
-  pub update-asked : (db power rise drop : ℕ) → gateUpdateRefusal bu bf gu gf db power rise drop ≡ 0
-      → Paired bu bf gu gf × (db ≡ getD gu 0 0) × (power ≡ getD gu 0 0) × (rise ≡ getD gu 0 0) × (drop ≡ getD gu 0 0)
+  pub update-asked : (db power rise drop : ℕ) → gateUpdateRefusal bu bf gu gf db power rise drop ≡ 0 → Takes bu bf gu gf db power rise drop
   unfolding gateUpdateRefusal
   update-asked db power rise drop e =
       let n = getD gu 0 0 in
       let a = neither (pairRefusal bu bf gu gf) _ e in
       let t = passed (differ db n || differ power n || differ rise n || differ drop n) 5 0 (omega arith) (a .1) .0 in
       let t₃ = or-l (differ db n || differ power n || differ rise n) (differ drop n) t in
-      let t₂ = or-l (differ db n || differ power n) (differ rise n) t₃ in (
-        paired bu bf gu gf (a .0),
-        same-of db n (or-l (differ db n) (differ power n) t₂),
-        same-of power n (or-r (differ db n) (differ power n) t₂),
-        same-of rise n (or-r (differ db n || differ power n) (differ rise n) t₃),
-        same-of drop n (or-r (differ db n || differ power n || differ rise n) (differ drop n) t),
-      )
+      let t₂ = or-l (differ db n || differ power n) (differ rise n) t₃ in
+      record {
+        paired = paired bu bf gu gf (a .0);
+        db-long = same-of db n (or-l (differ db n) (differ power n) t₂);
+        power-long = same-of power n (or-r (differ db n) (differ power n) t₂);
+        rise-long = same-of rise n (or-r (differ db n || differ power n) (differ rise n) t₃);
+        drop-long = same-of drop n (or-r (differ db n || differ power n || differ rise n) (differ drop n) t);
+      }
 
   -- ---- a hold
 
@@ -98,10 +99,10 @@ module _ (bu : List ℕ) (bf : List Float) (gu : List ℕ) (gf : List Float) whe
     unfolding gateUpdate
     update-refused x e z = unchanged x z ∙ ap outcome e
 
-    pub updated : (u′ : List ℕ) (f′ : List Float) (rise′ drop′ : List ℕ) → refusal ≡ 0 → Holds after u′ f′ → Marked after (bankOf bu bf) rise′ drop′
+    pub updated : (u′ : List ℕ) (f′ : List Float) (rise′ drop′ : List ℕ) → refusal ≡ 0 → Taken after (bankOf bu bf) u′ f′ rise′ drop′
         → (0, u′, f′, rise′, drop′) ≡ gateUpdate bu bf gu gf h rise drop
     unfolding gateUpdate
-    updated u′ f′ rise′ drop′ e q m = (λ i. (0, q .u16s i, q .floats i, m .rises i, m .drops i)) ∙ ap outcome (sym e)
+    updated u′ f′ rise′ drop′ e t = (λ i. (0, t .holds .u16s i, t .holds .floats i, t .marked .rises i, t .marked .drops i)) ∙ ap outcome (sym e)
 
   -- ---- the stores that a step leaves: they hold a sound gate of as many channels
 

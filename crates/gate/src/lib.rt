@@ -1,9 +1,33 @@
 // Document 01, "Windows, ladder, gate": the gate's update and its hold over the four lent stores.
 
 ghost use mathlib.Core.Path.{_≡_};
+ghost use lib.ListN.{length};
+ghost use Rattle.model.specs.Stores.{bankOf};
+ghost use Rattle.model.specs.Gate.{updateStep};
+ghost use Rattle.model.specs.GateStores.{gateOf};
 ghost use Rattle.model.specs.GateCalls.{gateUpdate, gateHold};
+ghost use Rattle.gate.specs.Hops.{Takes, Taken};
 
-// One hop's dB and linear power of each channel: the gate steps, its pairs are brought up to date (R-3), and it is judged.
+// One hop that is not refused: the gate steps, its pairs are brought up to date (R-3), and it is judged.
+pub fn take_hop(
+    bank: &[u16],
+    bank_f: &[f64],
+    gate: &mut [u16],
+    gate_f: &mut [f64],
+    power_db: &[f64],
+    power: &[f32],
+    rise: &mut [u8],
+    drop: &mut [u8],
+)
+    requires { ⌜ Takes (now bank) (now «bank_f») (now gate) (now «gate_f») (length (now «power_db»)) (length (now power)) (length (now rise)) (length (now drop)) ⌝ }
+    ensures { λ _. ⌜ Taken (updateStep (gateOf (now (gate .entry)) (now («gate_f» .entry))) (bankOf (now (bank .entry)) (now («bank_f» .entry))) (now («power_db» .entry)) (now (power .entry))) (bankOf (now (bank .entry)) (now («bank_f» .entry))) (now (gate .exit)) (now («gate_f» .exit)) (now (rise .exit)) (now (drop .exit)) ⌝ }
+{
+    gate_step::step(gate, gate_f, power_db, power);
+    gate_pairs::refresh(bank, bank_f, gate, gate_f);
+    gate_marks::judge(bank, bank_f, gate, gate_f, rise, drop);
+}
+
+// One hop's dB and linear power of each channel.
 pub fn gate_update(
     bank: &[u16],
     bank_f: &[f64],
@@ -29,9 +53,7 @@ pub fn gate_update(
     if refusal != 0 {
         return refusal;
     }
-    gate_step::step(gate, gate_f, power_db, power);
-    gate_pairs::refresh(bank, bank_f, gate, gate_f);
-    gate_marks::judge(bank, bank_f, gate, gate_f, rise, drop);
+    take_hop(bank, bank_f, gate, gate_f, power_db, power, rise, drop);
     0
 }
 

@@ -14,7 +14,7 @@ use Rattle.laws.proofs.Tests.{by-test, clash, and-true}
 use Rattle.model.specs.Numbers.{f0}
 use Rattle.model.specs.Bank.{standsAt, firstAt, ranked}
 use Rattle.laws.proofs.Counts.{count-le}
-use Rattle.median.proofs.Order.{lt-is, le-trans}
+use Rattle.laws.proofs.Order.{lt-is, le-trans}
 
 abbrev pub NoNan : List Float → Type 0
 NoNan l = (i : ℕ) → i < length l → isNan (getD l i f0) ≡ false

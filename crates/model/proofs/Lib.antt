@@ -45,3 +45,4 @@ pub mod Louder
 pub mod LouderCases
 pub mod MapSets
 pub mod WorstOfLate
+pub mod Decibels

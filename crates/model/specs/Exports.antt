@@ -1,7 +1,7 @@
 -- Each exported call does what demand 3's step says: from the equation that is its contract, `step`'s answer and stores, and the rises.
 -- In the contracts r, u, f, m, rise and drop are the answer and what the lent slices hold at exit.
 use mathlib.Core.Path.{_≡_, ap}
-use mathlib.Core.Bool.{true, false}
+use mathlib.Core.Bool.{Bool, true, false}
 use mathlib.Core.List.{List}
 use Prim.Native.Nat.{ℕ}
 use lib.Ieee.{Float}
@@ -10,6 +10,7 @@ use Rattle.model.specs.Calls.{bankUpdate}
 use Rattle.model.specs.GateCalls.{GateHop, gateUpdate, gateHold}
 use Rattle.model.specs.WorstCalls.{Answered, worstUpdate}
 use Rattle.model.specs.MapCalls.{gateUpdateMap, gateHoldMap, mapWrite}
+use Rattle.model.specs.Decibels.{linearHop, linearGateHop}
 use Rattle.model.specs.Demand3.{bank, gate, hold, write, Stores, step, risesOf}
 
 -- wolfcloak_bank_update, wolfcloak_bank_update_holding_reference
@@ -71,3 +72,31 @@ pub write-does : (s : Stores) (i v r : ℕ) (m : List ℕ) → (r, m) ≡ mapWri
     → (r, record { bu = s .bu; bf = s .bf; gu = s .gu; gf = s .gf; wu = s .wu; wf = s .wf; map = m }) ≡ step s (write i v)
 unfolding step
 write-does s i v r m e = ap (λ (a : ℕ × List ℕ). (a .0, record { bu = s .bu; bf = s .bf; gu = s .gu; gf = s .gf; wu = s .wu; wf = s .wf; map = a .1 })) e
+
+-- R-13: an update from linear power alone is the update above with the dB that it works out, so it counts like it in every guarantee
+
+-- wolfcloak_bank_update_linear
+pub linear-bank-does : (s : Stores) (held : Bool) (power : List Float) (r : ℕ) (u : List ℕ) (f : List Float)
+    → (r, u, f) ≡ bankUpdate (s .bu) (s .bf) (linearHop held power)
+    → (r, record { bu = u; bf = f; gu = s .gu; gf = s .gf; wu = s .wu; wf = s .wf; map = s .map }) ≡ step s (bank false (linearHop held power))
+linear-bank-does s held power = bank-does s (linearHop held power)
+
+-- wolfcloak_gate_update_linear
+pub linear-gate-does : (s : Stores) (power : List Float) (rise drop rise′ drop′ : List ℕ) (r : ℕ) (u : List ℕ) (f : List Float)
+    → (r, u, f, rise′, drop′) ≡ gateUpdate (s .bu) (s .bf) (s .gu) (s .gf) (linearGateHop power) rise drop
+    → ((r, record { bu = s .bu; bf = s .bf; gu = u; gf = f; wu = s .wu; wf = s .wf; map = s .map }) ≡ step s (gate false (linearGateHop power) rise drop))
+    × (rise′ ≡ risesOf s (gate false (linearGateHop power) rise drop))
+linear-gate-does s power = gate-does s (linearGateHop power)
+
+-- wolfcloak_gate_update_linear_map
+pub linear-gate-map-does : (s : Stores) (power : List Float) (rise drop rise′ drop′ : List ℕ) (r : ℕ) (u : List ℕ) (f : List Float) (m : List ℕ)
+    → (r, u, f, m, rise′, drop′) ≡ gateUpdateMap (s .bu) (s .bf) (s .gu) (s .gf) (s .map) (linearGateHop power) rise drop
+    → ((r, record { bu = s .bu; bf = s .bf; gu = u; gf = f; wu = s .wu; wf = s .wf; map = m }) ≡ step s (gate true (linearGateHop power) rise drop))
+    × (rise′ ≡ risesOf s (gate true (linearGateHop power) rise drop))
+linear-gate-map-does s power = gate-map-does s (linearGateHop power)
+
+-- wolfcloak_bank_update_linear_worst
+pub linear-carry-does : (s : Stores) (held : Bool) (power : List Float) (r : ℕ) (u : List ℕ) (f : List Float) (wu : List ℕ) (wf : List Float)
+    → (r, u, f, wu, wf) ≡ worstUpdate (s .bu) (s .bf) (s .wu) (s .wf) (linearHop held power)
+    → (r, record { bu = u; bf = f; gu = s .gu; gf = s .gf; wu = wu; wf = wf; map = s .map }) ≡ step s (bank true (linearHop held power))
+linear-carry-does s held power = carry-does s (linearHop held power)

@@ -115,6 +115,9 @@ rungsBelow = 8 * ladderDepth
 abbrev pub rungsAbove : ℕ
 rungsAbove = 8 * ladderTop
 
+abbrev pub rungCount : ℕ
+rungCount = rungsBelow + rungsAbove + 1
+
 -- the powers of ten, counted from the lowest, 10^-35: the literals of 10^(q - 9) for q from -26 to 40
 abbrev pub zeroTen : ℕ
 zeroTen = ladderDepth / 10 + 9

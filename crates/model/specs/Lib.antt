@@ -16,6 +16,7 @@ pub mod GateCalls
 pub mod Map
 pub mod MapCalls
 pub mod MapReach
+pub mod Decibels
 pub mod Bench
 pub mod Sound
 pub mod GoodBank

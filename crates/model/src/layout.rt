@@ -56,6 +56,8 @@ pub const RUNGS_BELOW_U16: u16 = RUNGS_BELOW as u16;
 
 pub const RUNGS_ABOVE_U16: u16 = 8 * LADDER_TOP as u16;
 
+pub const RUNG_COUNT: usize = 8 * (LADDER_DEPTH + LADDER_TOP) + 1;
+
 pub const PAST_RUNGS_F64: f64 = (8 * LADDER_TOP + 1) as f64;
 
 // The powers of ten that the rungs need.

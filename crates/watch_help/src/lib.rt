@@ -46,6 +46,7 @@ fn print_options() {
     );
     say(b"  --csv          a line per slow hop (every 15th) and channel, for tools/plot.py\n");
     say(b"  --log          FILE is a hop log\n");
+    say(b"  --linear       leaves the dB of FILE aside and works them out from its powers\n");
     say(b"  --help         this text\n\n");
 }
 

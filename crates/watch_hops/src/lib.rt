@@ -63,8 +63,8 @@ pub fn watch_hops(
     );
 }
 
-// The next hop, of a log or of a recording.
-fn read_hop(
+// The next hop as it was kept, in a log or in a recording.
+fn read_kept(
     fd: i32,
     s: Settings,
     n: u16,
@@ -77,6 +77,23 @@ fn read_hop(
         return watch_log::read_hop(fd, n, bits, powers, db, power);
     }
     watch_read::read_hop(fd, n, db, power)
+}
+
+// The next hop, its dB as read or as worked out from its powers (R-13).
+fn read_hop(
+    fd: i32,
+    s: Settings,
+    n: u16,
+    bits: &mut [u64],
+    powers: &mut [u32],
+    db: &mut [f64],
+    power: &mut [f32],
+) -> Step {
+    let step = read_kept(fd, s, n, bits, powers, db, power);
+    if s.is_linear {
+        watch_decibels::work_out(db, power);
+    }
+    step
 }
 
 // Nothing that is watched has as many hops as there are turns.

@@ -38,6 +38,14 @@ fn put_span(line: &mut [u8; LINE], at: usize, span: usize) -> usize {
     put_text(line, at, b" slow hops.")
 }
 
+// Where the dB come from, if not from what is watched (R-13).
+fn put_linear(line: &mut [u8; LINE], at: usize, is_linear: bool) -> usize {
+    if is_linear {
+        return put_text(line, at, b" The dB are worked out from the powers.");
+    }
+    at
+}
+
 fn print_settings(s: Settings, lengths: &[u16], n: u16) {
     let mut line = [0u8; LINE];
     let at = put_number(&mut line, 0, wide(n), 0);
@@ -51,6 +59,7 @@ fn print_settings(s: Settings, lengths: &[u16], n: u16) {
     let at = put_lengths(&mut line, at, lengths);
     let at = put_text(&mut line, at, b" hops.");
     let at = put_span(&mut line, at, s.worst);
+    let at = put_linear(&mut line, at, s.is_linear);
     let at = put_text(&mut line, at, b"\n\n");
     say(&line, at);
 }

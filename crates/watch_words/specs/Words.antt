@@ -12,7 +12,7 @@ use Rattle.watch_levels.specs.Levels.{level, noLevel, levelOf}
 use Rattle.watch_lengths.specs.Lengths.{lengthsOf}
 use Rattle.watch_numbers.specs.Numbers.{channelOf, spanOf}
 use Rattle.watch_words.specs.declared.Word.{Word}
-use Rattle.watch_words.specs.declared.Word.the-variants.{Help, Csv, Reference, Log, On, Off, Early, Lengths, Explain, Worst, Unknown, File}
+use Rattle.watch_words.specs.declared.Word.the-variants.{Help, Csv, Reference, Log, Linear, On, Off, Early, Lengths, Explain, Worst, Unknown, File}
 use Rattle.watch_words.specs.declared.Settings.{Settings}
 
 -- the options by their names
@@ -23,6 +23,7 @@ options =
     ∷ (ascii "--csv", Csv)
     ∷ (ascii "--reference", Reference)
     ∷ (ascii "--log", Log)
+    ∷ (ascii "--linear", Linear)
     ∷ (ascii "--on", On)
     ∷ (ascii "--off", Off)
     ∷ (ascii "--early", Early)
@@ -98,6 +99,7 @@ defaults =
       «has_reference» = false;
       «is_help» = false;
       «is_log» = false;
+      «is_linear» = false;
       file = 0;
       explained = 0;
       worst = 0;
@@ -121,6 +123,7 @@ valued s a b e n =
       «has_reference» = s .«has_reference»;
       «is_help» = s .«is_help»;
       «is_log» = s .«is_log»;
+      «is_linear» = s .«is_linear»;
       file = s .file;
       explained = s .explained;
       worst = s .worst;
@@ -130,8 +133,8 @@ valued s a b e n =
     }
 
 -- settings that ask for other things
-abbrev pub asking : Settings → Bool → Bool → Bool → Bool → ℕ → Settings
-asking s csv reference help log i =
+abbrev pub asking : Settings → Bool → Bool → Bool → Bool → Bool → ℕ → Settings
+asking s csv reference help log linear i =
     record {
       on = s .on;
       off = s .off;
@@ -141,6 +144,7 @@ asking s csv reference help log i =
       «has_reference» = reference;
       «is_help» = help;
       «is_log» = log;
+      «is_linear» = linear;
       file = i;
       explained = s .explained;
       worst = s .worst;
@@ -161,6 +165,7 @@ noted s d f i =
       «has_reference» = s .«has_reference»;
       «is_help» = s .«is_help»;
       «is_log» = s .«is_log»;
+      «is_linear» = s .«is_linear»;
       file = s .file;
       explained = s .explained;
       worst = s .worst;
@@ -181,6 +186,7 @@ telling s v w =
       «has_reference» = s .«has_reference»;
       «is_help» = s .«is_help»;
       «is_log» = s .«is_log»;
+      «is_linear» = s .«is_linear»;
       file = s .file;
       explained = v;
       worst = w;
@@ -205,15 +211,19 @@ awaiting s d i = noted s d (s .fault) i
 
 -- what is to be printed
 abbrev pub printing : Settings → Bool → Bool → Bool → Settings
-printing s csv reference help = asking s csv reference help (s .«is_log») (s .file)
+printing s csv reference help = asking s csv reference help (s .«is_log») (s .«is_linear») (s .file)
 
 -- the file is word i
 abbrev pub filed : Settings → ℕ → Settings
-filed s i = asking s (s .«is_csv») (s .«has_reference») (s .«is_help») (s .«is_log») i
+filed s i = asking s (s .«is_csv») (s .«has_reference») (s .«is_help») (s .«is_log») (s .«is_linear») i
 
 -- what is watched is a hop log
 abbrev pub logged : Settings → Settings
-logged s = asking s (s .«is_csv») (s .«has_reference») (s .«is_help») true (s .file)
+logged s = asking s (s .«is_csv») (s .«has_reference») (s .«is_help») true (s .«is_linear») (s .file)
+
+-- the dB are worked out from the powers
+abbrev pub linearly : Settings → Settings
+linearly s = asking s (s .«is_csv») (s .«has_reference») (s .«is_help») (s .«is_log») true (s .file)
 
 abbrev pub levelled : Settings → Level → Level → Level → Settings
 levelled s a b e = valued s a b e (s .lengths)
@@ -231,6 +241,7 @@ anyTaken s i Help = printing s (s .«is_csv») (s .«has_reference») true
 anyTaken s i Csv = printing s true (s .«has_reference») (s .«is_help»)
 anyTaken s i Reference = printing s (s .«is_csv») true (s .«is_help»)
 anyTaken s i Log = logged s
+anyTaken s i Linear = linearly s
 anyTaken s i On = awaiting s onValue i
 anyTaken s i Off = awaiting s offValue i
 anyTaken s i Early = awaiting s earlyValue i

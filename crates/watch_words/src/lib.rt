@@ -4,7 +4,7 @@ ghost use mathlib.Core.Bool.{_&&_};
 ghost use lib.Dec.{eqb};
 ghost use Rattle.laws.specs.Texts.{ascii, sameBytes};
 ghost use Rattle.watch_words.specs.Words.{named, options, wordOf, defaults, defaultLengths, faulty as Words·faulty};
-ghost use Rattle.watch_words.specs.Words.{awaiting as Words·awaiting, withFile, printing, logged, anyTaken, withLevel, levelTaken, lengthsTaken};
+ghost use Rattle.watch_words.specs.Words.{awaiting as Words·awaiting, withFile, printing, logged, linearly, anyTaken, withLevel, levelTaken, lengthsTaken};
 ghost use Rattle.watch_words.specs.Words.{earlyValue, channelTaken, spanTaken, wordTaken, allTaken};
 ghost use Rattle.watch_lengths.specs.Lengths.{lengthsOf};
 ghost use Rattle.watch_numbers.specs.Numbers.{channelOf, spanOf};
@@ -24,6 +24,7 @@ pub enum Word {
     Csv,
     Reference,
     Log,
+    Linear,
     On,
     Off,
     Early,
@@ -57,6 +58,9 @@ fn option_of(word: &[u8]) -> Word
     }
     if is(word, b"--log") {
         return Word::Log;
+    }
+    if is(word, b"--linear") {
+        return Word::Linear;
     }
     if is(word, b"--on") {
         return Word::On;
@@ -137,6 +141,8 @@ pub struct Settings {
     pub is_help: bool,
     // What is watched is a hop log.
     pub is_log: bool,
+    // The dB are left aside and worked out from the powers (R-13).
+    pub is_linear: bool,
     // The number of the word that names the recording; 0: none does.
     pub file: usize,
     // The channel whose floors are explained, with 1 added; 0: none is.
@@ -167,6 +173,7 @@ pub fn default_settings() -> Settings
         has_reference: false,
         is_help: false,
         is_log: false,
+        is_linear: false,
         file: 0,
         explained: 0,
         worst: 0,
@@ -225,6 +232,13 @@ fn with_log(mut s: Settings) -> Settings
     s
 }
 
+fn with_linear(mut s: Settings) -> Settings
+    ensures { λ r. ⌜ r ≡ linearly s ⌝ }
+{
+    s.is_linear = true;
+    s
+}
+
 fn take_any(s: Settings, i: usize, word: &[u8]) -> Settings
     ensures { λ r. ⌜ r ≡ anyTaken s i (wordOf (now (word .entry))) ⌝ }
 {
@@ -233,6 +247,7 @@ fn take_any(s: Settings, i: usize, word: &[u8]) -> Settings
         Word::Csv => with_printing(s, true, s.has_reference, s.is_help),
         Word::Reference => with_printing(s, s.is_csv, true, s.is_help),
         Word::Log => with_log(s),
+        Word::Linear => with_linear(s),
         Word::On => awaiting(s, ON, i),
         Word::Off => awaiting(s, OFF, i),
         Word::Early => awaiting(s, EARLY, i),

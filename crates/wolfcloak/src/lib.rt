@@ -2,6 +2,7 @@
 pub mod antenna_rows;
 pub mod explain_row;
 pub mod gate_rows;
+pub mod linear_rows;
 pub mod log_rows;
 pub mod map_rows;
 pub mod segment_rows;

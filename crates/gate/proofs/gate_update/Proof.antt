@@ -1,16 +1,10 @@
--- `gate::gate_update` meets its contract: the gate that it leaves is the one that it judges. Assumes nothing.
+-- `gate::gate_update` meets its contract. Assumes nothing.
 use mathlib.Core.Path.{_≡_, sym, _∙_}
-use mathlib.Core.List.{List}
 use Prim.Native.Nat.{ℕ}
-use lib.ListN.{length, getD}
-use lib.Ieee.{Float}
-use Rattle.model.specs.Stores.{bankOf}
-use Rattle.model.specs.Gate.{gateStep, updateStep}
-use Rattle.model.specs.GateStores.{gateOf}
+use lib.ListN.{length}
 use Rattle.model.specs.GateCalls.{GateHop, gateUpdateRefusal}
-use Rattle.gate_cursors.specs.Paired.{Paired}
-use Rattle.gate_step.specs.Steps.{Holds}
-use Rattle.gate.proofs.Calls.{update-asked, update-refused, updated, left-n, left-paired, left-marked, hop-good, hop-n, update-good, update-n, update-holds}
+use Rattle.gate.specs.Hops.{Takes}
+use Rattle.gate.proofs.Calls.{update-asked, update-refused, updated}
 use borrow.Author.Needs.{needs}
 use Rattle.gate.proofs.gate_update.Statement.{statement}
 use Rattle.gate.proofs.gate_update.Tie as tie
@@ -18,47 +12,20 @@ use Rattle.gate.proofs.gate_update.Tie as tie
 abbrev start : tie.After-gate-update-refusal → tie.Start
 start q = q .before .before .before .before .before .before .before .before .before .before .before
 
-abbrev BU : tie.Else1 → List ℕ
-BU e = start (e .before) .args .bank .now
-
-abbrev BF : tie.Else1 → List Float
-BF e = start (e .before) .args .bank-f .now
-
-abbrev GU : tie.Else1 → List ℕ
-GU e = start (e .before) .args .gate .now
-
-abbrev GF : tie.Else1 → List Float
-GF e = start (e .before) .args .gate-f .now
-
-abbrev hop : tie.After-gate-update-refusal → GateHop
-hop q = record { db = start q .args .power-db .now; power = start q .args .power .now }
+abbrev hop : tie.Start → GateHop
+hop s = record { db = s .args .power-db .now; power = s .args .power .now }
 
 -- past the test the update is not refused
 none : (e : tie.Else1)
-    → gateUpdateRefusal (BU e) (BF e) (GU e) (GF e) (length (hop (e .before) .db)) (length (hop (e .before) .power)) (length (start (e .before) .args .rise .now)) (length (start (e .before) .args .drop .now)) ≡ 0
+    → let s = start (e .before) in
+    gateUpdateRefusal (s .args .bank .now) (s .args .bank-f .now) (s .args .gate .now) (s .args .gate-f .now) (length (hop s .db)) (length (hop s .power)) (length (s .args .rise .now)) (length (s .args .drop .now)) ≡ 0
 none e = sym (e .before .gate-update-refusal .ensures) ∙ e .if1 .left
 
 asked : (e : tie.Else1)
-    → Paired (BU e) (BF e) (GU e) (GF e) × (length (hop (e .before) .db) ≡ getD (GU e) 0 0) × (length (hop (e .before) .power) ≡ getD (GU e) 0 0)
-    × (length (start (e .before) .args .rise .now) ≡ getD (GU e) 0 0) × (length (start (e .before) .args .drop .now) ≡ getD (GU e) 0 0)
-asked e =
-    update-asked (BU e) (BF e) (GU e) (GF e) (length (hop (e .before) .db)) (length (hop (e .before) .power)) (length (start (e .before) .args .rise .now)) (length (start (e .before) .args .drop .now)) (none e)
-
--- once the pairs are up to date: the step before that, and the way past the test
-abbrev at-step : tie.After-refresh → tie.After-step
-at-step r = r .before .before .before .before .before .before .before
-
-abbrev at-else : tie.After-refresh → tie.Else1
-at-else r = at-step r .before .before .before
-
--- the stores then hold the gate that the update leaves
-holds : (r : tie.After-refresh)
-    → Holds
-    (updateStep (gateOf (GU (at-else r)) (GF (at-else r))) (bankOf (BU (at-else r)) (BF (at-else r))) (hop (at-else r .before) .db) (hop (at-else r .before) .power))
-    (at-step r .step .last .0) (r .refresh .last .1 .1 .1 .0)
-holds r = let e = at-else r in
-    let h = hop (e .before) in
-    update-holds (BU e) (BF e) (GU e) (GF e) (asked e .0) (h .db) (h .power) (at-step r .step .last .0) (at-step r .step .last .1 .0) (r .refresh .last .1 .1 .1 .0) (at-step r .step .ensures) (r .refresh .ensures)
+    → let s = start (e .before) in
+    Takes (s .args .bank .now) (s .args .bank-f .now) (s .args .gate .now) (s .args .gate-f .now) (length (hop s .db)) (length (hop s .power)) (length (s .args .rise .now)) (length (s .args .drop .now))
+asked e = let s = start (e .before) in
+    update-asked (s .args .bank .now) (s .args .bank-f .now) (s .args .gate .now) (s .args .gate-f .now) (length (hop s .db)) (length (hop s .power)) (length (s .args .rise .now)) (length (s .args .drop .now)) (none e)
 
 gate-update-refusal-requires : tie.Need-gate-update-refusal-requires
 gate-update-refusal-requires c κs = search needs
@@ -72,33 +39,10 @@ same-length-2 c = search needs
 returns : tie.Need-returns
 returns c = let q = c .before in
     let s = start q in
-    update-refused (s .args .bank .now) (s .args .bank-f .now) (s .args .gate .now) (s .args .gate-f .now) (hop q) (s .args .rise .now) (s .args .drop .now) (q .gate-update-refusal .result) (q .gate-update-refusal .ensures) (c .if1 .taken)
+    update-refused (s .args .bank .now) (s .args .bank-f .now) (s .args .gate .now) (s .args .gate-f .now) (hop s) (s .args .rise .now) (s .args .drop .now) (q .gate-update-refusal .result) (q .gate-update-refusal .ensures) (c .if1 .taken)
 
-step-requires : tie.Need-step-requires
-step-requires c κs = let a = asked (c .before .before) in
-    (a .0 .gate, a .1, a .2)
-
-refresh-requires : tie.Need-refresh-requires
-refresh-requires c κs = let w = c .before .before .before .before .before .before in
-    let e = w .before .before .before in
-    let h = hop (e .before) in
-    let p = asked e .0 in
-    left-paired (BU e) (BF e) (GU e) (GF e) p (gateStep (gateOf (GU e) (GF e)) (h .db) (h .power)) (hop-good (BU e) (BF e) (GU e) (GF e) p (h .db) (h .power))
-    (hop-n (BU e) (BF e) (GU e) (GF e) p (h .db) (h .power)) (w .step .last .0) (w .step .last .1 .0) (w .step .ensures)
-
-judge-requires : tie.Need-judge-requires
-judge-requires c κs = let r = c .before .before .before .before .before .before in
-    let e = at-else r in
-    let h = hop (e .before) in
-    let p = asked e .0 in
-    let H = updateStep (gateOf (GU e) (GF e)) (bankOf (BU e) (BF e)) (h .db) (h .power) in
-    let good = update-good (BU e) (BF e) (GU e) (GF e) p (h .db) (h .power) in
-    let same = update-n (BU e) (BF e) (GU e) (GF e) p (h .db) (h .power) in
-    let n = left-n (BU e) (BF e) (GU e) (GF e) p H good same (at-step r .step .last .0) (r .refresh .last .1 .1 .1 .0) (holds r) in (
-      left-paired (BU e) (BF e) (GU e) (GF e) p H good same (at-step r .step .last .0) (r .refresh .last .1 .1 .1 .0) (holds r),
-      asked e .3 ∙ sym n,
-      asked e .4 ∙ sym n,
-    )
+take-hop-requires : tie.Need-take-hop-requires
+take-hop-requires c κs = asked (c .before .before .before .before)
 
 same-length-3 : tie.Need-same-length-3
 same-length-3 c = search needs
@@ -113,16 +57,10 @@ same-length-6 : tie.Need-same-length-6
 same-length-6 c = search needs
 
 returns-2 : tie.Need-returns-2
-returns-2 c = let j = c .before .before .before .before in
-    let r = j .before .before .before .before .before .before .before in
-    let e = at-else r in
-    let h = hop (e .before) in
-    let p = asked e .0 in
-    updated (BU e) (BF e) (GU e) (GF e) h (start (e .before) .args .rise .now) (start (e .before) .args .drop .now) (at-step r .step .last .0)
-    (r .refresh .last .1 .1 .1 .0) _ _ (none e) (holds r)
-    (left-marked (BU e) (BF e) (GU e) (GF e) p (updateStep (gateOf (GU e) (GF e)) (bankOf (BU e) (BF e)) (h .db) (h .power))
-    (update-good (BU e) (BF e) (GU e) (GF e) p (h .db) (h .power)) (update-n (BU e) (BF e) (GU e) (GF e) p (h .db) (h .power)) (at-step r .step .last .0)
-    (r .refresh .last .1 .1 .1 .0) (holds r) (bankOf (BU e) (BF e)) _ _ (j .judge .ensures))
+returns-2 c = let t = c .before .before .before .before .before .before .before .before in
+    let e = t .before .before .before .before .before in
+    let s = start (e .before) in
+    updated (s .args .bank .now) (s .args .bank-f .now) (s .args .gate .now) (s .args .gate-f .now) (hop s) (s .args .rise .now) (s .args .drop .now) _ _ _ _ (none e) (t .take-hop .ensures)
 
 pub gate-update-spec : {M : Type 1} → statement M
 gate-update-spec =
@@ -132,9 +70,7 @@ gate-update-spec =
     same-length
     same-length-2
     returns
-    step-requires
-    refresh-requires
-    judge-requires
+    take-hop-requires
     same-length-3
     same-length-4
     same-length-5

@@ -115,9 +115,19 @@ returns-11 : tie.Need-returns-11
 unfolding named
 returns-11 c = simp (sym (c .before .before .before .before .before .before .before .before .before .before .before .before .before .before .before .before .before .before .before .before .before .before .before .before .before .before .before .before .before .before .before .is .ensures) ∙ c .before .before .before .before .before .before .before .before .before .before .before .before .before .before .before .before .before .before .before .before .before .before .before .before .before .before .before .before .before .before .if1 .left, sym (c .before .before .before .before .before .before .before .before .before .before .before .before .before .before .before .before .before .before .before .before .before .before .before .before .before .before .before .before .is2 .ensures) ∙ c .before .before .before .before .before .before .before .before .before .before .before .before .before .before .before .before .before .before .before .before .before .before .before .before .before .before .before .if2 .left, sym (c .before .before .before .before .before .before .before .before .before .before .before .before .before .before .before .before .before .before .before .before .before .before .before .before .before .is3 .ensures) ∙ c .before .before .before .before .before .before .before .before .before .before .before .before .before .before .before .before .before .before .before .before .before .before .before .before .if3 .left, sym (c .before .before .before .before .before .before .before .before .before .before .before .before .before .before .before .before .before .before .before .before .before .before .is4 .ensures) ∙ c .before .before .before .before .before .before .before .before .before .before .before .before .before .before .before .before .before .before .before .before .before .if4 .left, sym (c .before .before .before .before .before .before .before .before .before .before .before .before .before .before .before .before .before .before .before .is5 .ensures) ∙ c .before .before .before .before .before .before .before .before .before .before .before .before .before .before .before .before .before .before .if5 .left, sym (c .before .before .before .before .before .before .before .before .before .before .before .before .before .before .before .before .is6 .ensures) ∙ c .before .before .before .before .before .before .before .before .before .before .before .before .before .before .before .if6 .left, sym (c .before .before .before .before .before .before .before .before .before .before .before .before .before .is7 .ensures) ∙ c .before .before .before .before .before .before .before .before .before .before .before .before .if7 .left, sym (c .before .before .before .before .before .before .before .before .before .before .is8 .ensures) ∙ c .before .before .before .before .before .before .before .before .before .if8 .left, sym (c .before .before .before .before .before .before .before .is9 .ensures) ∙ c .before .before .before .before .before .before .if9 .left, sym (c .before .before .before .before .is10 .ensures) ∙ c .before .before .before .if10 .left, sym (c .before .is11 .ensures) ∙ c .if11 .taken)
 
+slice-aggregate-is-12 : tie.Need-slice-aggregate-is-12
+slice-aggregate-is-12 c = search needs
+
+is-requires-12 : tie.Need-is-requires-12
+is-requires-12 c κs = search needs
+
 returns-12 : tie.Need-returns-12
 unfolding named
-returns-12 c = simp (sym (c .before .before .before .before .before .before .before .before .before .before .before .before .before .before .before .before .before .before .before .before .before .before .before .before .before .before .before .before .before .before .before .is .ensures) ∙ c .before .before .before .before .before .before .before .before .before .before .before .before .before .before .before .before .before .before .before .before .before .before .before .before .before .before .before .before .before .before .if1 .left, sym (c .before .before .before .before .before .before .before .before .before .before .before .before .before .before .before .before .before .before .before .before .before .before .before .before .before .before .before .before .is2 .ensures) ∙ c .before .before .before .before .before .before .before .before .before .before .before .before .before .before .before .before .before .before .before .before .before .before .before .before .before .before .before .if2 .left, sym (c .before .before .before .before .before .before .before .before .before .before .before .before .before .before .before .before .before .before .before .before .before .before .before .before .before .is3 .ensures) ∙ c .before .before .before .before .before .before .before .before .before .before .before .before .before .before .before .before .before .before .before .before .before .before .before .before .if3 .left, sym (c .before .before .before .before .before .before .before .before .before .before .before .before .before .before .before .before .before .before .before .before .before .before .is4 .ensures) ∙ c .before .before .before .before .before .before .before .before .before .before .before .before .before .before .before .before .before .before .before .before .before .if4 .left, sym (c .before .before .before .before .before .before .before .before .before .before .before .before .before .before .before .before .before .before .before .is5 .ensures) ∙ c .before .before .before .before .before .before .before .before .before .before .before .before .before .before .before .before .before .before .if5 .left, sym (c .before .before .before .before .before .before .before .before .before .before .before .before .before .before .before .before .is6 .ensures) ∙ c .before .before .before .before .before .before .before .before .before .before .before .before .before .before .before .if6 .left, sym (c .before .before .before .before .before .before .before .before .before .before .before .before .before .is7 .ensures) ∙ c .before .before .before .before .before .before .before .before .before .before .before .before .if7 .left, sym (c .before .before .before .before .before .before .before .before .before .before .is8 .ensures) ∙ c .before .before .before .before .before .before .before .before .before .if8 .left, sym (c .before .before .before .before .before .before .before .is9 .ensures) ∙ c .before .before .before .before .before .before .if9 .left, sym (c .before .before .before .before .is10 .ensures) ∙ c .before .before .before .if10 .left, sym (c .before .is11 .ensures) ∙ c .if11 .left)
+returns-12 c = simp (sym (c .before .before .before .before .before .before .before .before .before .before .before .before .before .before .before .before .before .before .before .before .before .before .before .before .before .before .before .before .before .before .before .before .before .before .is .ensures) ∙ c .before .before .before .before .before .before .before .before .before .before .before .before .before .before .before .before .before .before .before .before .before .before .before .before .before .before .before .before .before .before .before .before .before .if1 .left, sym (c .before .before .before .before .before .before .before .before .before .before .before .before .before .before .before .before .before .before .before .before .before .before .before .before .before .before .before .before .before .before .before .is2 .ensures) ∙ c .before .before .before .before .before .before .before .before .before .before .before .before .before .before .before .before .before .before .before .before .before .before .before .before .before .before .before .before .before .before .if2 .left, sym (c .before .before .before .before .before .before .before .before .before .before .before .before .before .before .before .before .before .before .before .before .before .before .before .before .before .before .before .before .is3 .ensures) ∙ c .before .before .before .before .before .before .before .before .before .before .before .before .before .before .before .before .before .before .before .before .before .before .before .before .before .before .before .if3 .left, sym (c .before .before .before .before .before .before .before .before .before .before .before .before .before .before .before .before .before .before .before .before .before .before .before .before .before .is4 .ensures) ∙ c .before .before .before .before .before .before .before .before .before .before .before .before .before .before .before .before .before .before .before .before .before .before .before .before .if4 .left, sym (c .before .before .before .before .before .before .before .before .before .before .before .before .before .before .before .before .before .before .before .before .before .before .is5 .ensures) ∙ c .before .before .before .before .before .before .before .before .before .before .before .before .before .before .before .before .before .before .before .before .before .if5 .left, sym (c .before .before .before .before .before .before .before .before .before .before .before .before .before .before .before .before .before .before .before .is6 .ensures) ∙ c .before .before .before .before .before .before .before .before .before .before .before .before .before .before .before .before .before .before .if6 .left, sym (c .before .before .before .before .before .before .before .before .before .before .before .before .before .before .before .before .is7 .ensures) ∙ c .before .before .before .before .before .before .before .before .before .before .before .before .before .before .before .if7 .left, sym (c .before .before .before .before .before .before .before .before .before .before .before .before .before .is8 .ensures) ∙ c .before .before .before .before .before .before .before .before .before .before .before .before .if8 .left, sym (c .before .before .before .before .before .before .before .before .before .before .is9 .ensures) ∙ c .before .before .before .before .before .before .before .before .before .if9 .left, sym (c .before .before .before .before .before .before .before .is10 .ensures) ∙ c .before .before .before .before .before .before .if10 .left, sym (c .before .before .before .before .is11 .ensures) ∙ c .before .before .before .if11 .left, sym (c .before .is12 .ensures) ∙ c .if12 .taken)
+
+returns-13 : tie.Need-returns-13
+unfolding named
+returns-13 c = simp (sym (c .before .before .before .before .before .before .before .before .before .before .before .before .before .before .before .before .before .before .before .before .before .before .before .before .before .before .before .before .before .before .before .before .before .before .is .ensures) ∙ c .before .before .before .before .before .before .before .before .before .before .before .before .before .before .before .before .before .before .before .before .before .before .before .before .before .before .before .before .before .before .before .before .before .if1 .left, sym (c .before .before .before .before .before .before .before .before .before .before .before .before .before .before .before .before .before .before .before .before .before .before .before .before .before .before .before .before .before .before .before .is2 .ensures) ∙ c .before .before .before .before .before .before .before .before .before .before .before .before .before .before .before .before .before .before .before .before .before .before .before .before .before .before .before .before .before .before .if2 .left, sym (c .before .before .before .before .before .before .before .before .before .before .before .before .before .before .before .before .before .before .before .before .before .before .before .before .before .before .before .before .is3 .ensures) ∙ c .before .before .before .before .before .before .before .before .before .before .before .before .before .before .before .before .before .before .before .before .before .before .before .before .before .before .before .if3 .left, sym (c .before .before .before .before .before .before .before .before .before .before .before .before .before .before .before .before .before .before .before .before .before .before .before .before .before .is4 .ensures) ∙ c .before .before .before .before .before .before .before .before .before .before .before .before .before .before .before .before .before .before .before .before .before .before .before .before .if4 .left, sym (c .before .before .before .before .before .before .before .before .before .before .before .before .before .before .before .before .before .before .before .before .before .before .is5 .ensures) ∙ c .before .before .before .before .before .before .before .before .before .before .before .before .before .before .before .before .before .before .before .before .before .if5 .left, sym (c .before .before .before .before .before .before .before .before .before .before .before .before .before .before .before .before .before .before .before .is6 .ensures) ∙ c .before .before .before .before .before .before .before .before .before .before .before .before .before .before .before .before .before .before .if6 .left, sym (c .before .before .before .before .before .before .before .before .before .before .before .before .before .before .before .before .is7 .ensures) ∙ c .before .before .before .before .before .before .before .before .before .before .before .before .before .before .before .if7 .left, sym (c .before .before .before .before .before .before .before .before .before .before .before .before .before .is8 .ensures) ∙ c .before .before .before .before .before .before .before .before .before .before .before .before .if8 .left, sym (c .before .before .before .before .before .before .before .before .before .before .is9 .ensures) ∙ c .before .before .before .before .before .before .before .before .before .if9 .left, sym (c .before .before .before .before .before .before .before .is10 .ensures) ∙ c .before .before .before .before .before .before .if10 .left, sym (c .before .before .before .before .is11 .ensures) ∙ c .before .before .before .if11 .left, sym (c .before .is12 .ensures) ∙ c .if12 .left)
 
 pub option-of-spec : {M : Type 1} → statement M
 option-of-spec =
@@ -156,4 +166,7 @@ option-of-spec =
     slice-aggregate-is-11
     is-requires-11
     returns-11
-    returns-12)
+    slice-aggregate-is-12
+    is-requires-12
+    returns-12
+    returns-13)
