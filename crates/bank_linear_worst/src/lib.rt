@@ -21,5 +21,13 @@ pub fn bank_update_linear_worst(
         return worst_store::carry_refusal(bank, bank_f, worst, worst_f, &none, power);
     }
     let db = decibels::hop_db(power);
-    worst::bank_update_worst(bank, bank_f, worst, worst_f, &db[..n], power, hold_reference)
+    worst::bank_update_worst(
+        bank,
+        bank_f,
+        worst,
+        worst_f,
+        &db[..n],
+        power,
+        hold_reference,
+    )
 }

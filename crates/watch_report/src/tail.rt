@@ -71,7 +71,17 @@ fn print_channel(
     let f = floors_shown(bank, bank_f, k);
     let w = worst_shown(s, bank, bank_f, worst, worst_f, k);
     let x = explanation_shown(bank, bank_f, k);
-    let at = put_channel_line(&mut line, k, f, s.worst > 0, w, x, alive_hops, rises, is_alive);
+    let at = put_channel_line(
+        &mut line,
+        k,
+        f,
+        s.worst > 0,
+        w,
+        x,
+        alive_hops,
+        rises,
+        is_alive,
+    );
     let at = put_reference(&mut line, at, bank, bank_f, k, s.has_reference && is_alive);
     let at = put_text(&mut line, at, b"\n");
     say(&line, at);
