@@ -146,7 +146,7 @@ no-worst-write : (r : ℕ) (b : FloorBank) (w : Worst) (i v : ℕ) → worstAfte
 no-worst-write zero b w i v = refl
 no-worst-write (suc r) b w i v = refl
 
-leaves-gate : (u : List ℕ) (f : List Float) (b : FloorBank) (c : Bool) (h : GateHop) (i j : ℕ) → gateRefusal u f ≡ 0 → GoodGate (gateOf u f) → (r : ℕ)
+pub leaves-gate : (u : List ℕ) (f : List Float) (b : FloorBank) (c : Bool) (h : GateHop) (i j : ℕ) → gateRefusal u f ≡ 0 → GoodGate (gateOf u f) → (r : ℕ)
     → (gateRefusal (gateLeaves r (updateStep (gateOf u f) b (h .db) (h .power)) u f .1) (gateLeaves r (updateStep (gateOf u f) b (h .db) (h .power)) u f .2) ≡ 0)
     × (gateOf (gateLeaves r (updateStep (gateOf u f) b (h .db) (h .power)) u f .1) (gateLeaves r (updateStep (gateOf u f) b (h .db) (h .power)) u f .2)
     ≡ gateAfter (gateLeaves r (updateStep (gateOf u f) b (h .db) (h .power)) u f .0) (gateOf u f) b (gate c h i j))
@@ -161,7 +161,7 @@ held-u u f b p =
     let r = gate-ready u f p in
     sym (gate-forth-u u f (r .long) (sizes u f r .few) (r .unused)) ∙ sym (ap gateU (bare-hold (gateOf u f) b))
 
-leaves-hold : (u : List ℕ) (f : List Float) (b : FloorBank) (c : Bool) (i j : ℕ) → gateRefusal u f ≡ 0 → GoodGate (gateOf u f) → (r : ℕ)
+pub leaves-hold : (u : List ℕ) (f : List Float) (b : FloorBank) (c : Bool) (i j : ℕ) → gateRefusal u f ≡ 0 → GoodGate (gateOf u f) → (r : ℕ)
     → (gateRefusal u (gateLeaves r (holdStep (gateOf u f) b) u f .2) ≡ 0)
     × (gateOf u (gateLeaves r (holdStep (gateOf u f) b) u f .2) ≡ gateAfter r (gateOf u f) b (hold c i j))
 leaves-hold u f b c i j p g zero =
