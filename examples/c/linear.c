@@ -5,6 +5,9 @@
 
 #include "wolfcloak.h"
 
+/* A receiver acts as technician. */
+enum { ROLE = WOLFCLOAK_TECHNICIAN };
+
 enum { CHANNELS = 4, HOPS = 1500, TONE = 2, BANK_LEN = 3 + 1 + 573 * CHANNELS, BANK_F_LEN = 4 * CHANNELS + 2, GATE_F_LEN = 35 * CHANNELS };
 
 /* One hop: 1e-15 more or less everywhere, and the tone at 1e-13 from hop 600 to hop 1,100. */

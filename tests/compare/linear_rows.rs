@@ -1,5 +1,6 @@
 // The C interface of libwolfcloak.a, the rows of R-13, for slices; also for tests/bench.
 #![allow(dead_code)]
+use crate::wolfcloak::role;
 
 #[link(name = "wolfcloak", kind = "static")]
 extern "C" {
