@@ -3,9 +3,7 @@ use crate::log_rows;
 use crate::numbers::Rng;
 use crate::plain_antennas;
 use crate::plain_log;
-use crate::roles::unless_stopped;
 use crate::tally::Tally;
-use crate::wolfcloak::TECHNICIAN;
 
 const SIZES: [usize; 8] = [1, 2, 7, 8, 9, 33, 63, 512];
 
@@ -43,7 +41,7 @@ fn log_of(n: usize, db: &[u64], power: &[u32]) -> Vec<u8> {
 fn combine(t: &mut Tally, first: &[u8], second: &[u8], room: usize) -> Result<Vec<u8>, u16> {
     let (mut ours, mut plain, mut len) = (vec![0xa5; room], vec![0xa5; room], BEFORE);
     let answer = log_rows::combine(first, second, &mut ours, &mut len);
-    let due = unless_stopped(TECHNICIAN, || plain_antennas::combine(first, second, &mut plain));
+    let due = plain_antennas::combine(first, second, &mut plain);
     let what = format!("logs of {} and {} bytes combined, room for {room}", first.len(), second.len());
     t.answer(format_args!("{what}"), answer, due.err().unwrap_or(0));
     t.check(len == due.unwrap_or(BEFORE), format_args!("{what}: the length is {len}, and {due:?} is due"));
@@ -75,14 +73,6 @@ fn spoilt(rng: &mut Rng, log: &[u8]) -> Vec<u8> {
         bytes[i] ^= 1 << rng.below(8);
     }
     bytes
-}
-
-/// Two logs combined, and faults of either and of both, in the role that the library is called in.
-pub fn in_a_role(t: &mut Tally, rng: &mut Rng) {
-    let [one, other] = [0, 1].map(|_| any_hops(rng, 9, 2)).map(|(db, power)| log_of(9, &db, &power));
-    for (first, second, room) in [(&one, &other, 500), (&one, &other, 1), (&one[..1].to_vec(), &other, 500), (&one, &other[..4].to_vec(), 500), (&vec![0, 0], &vec![9], 0)] {
-        let _ = combine(t, first, second, room);
-    }
 }
 
 pub fn any_antennas(t: &mut Tally, rng: &mut Rng) {

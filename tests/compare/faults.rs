@@ -38,9 +38,9 @@ fn fit(l: &mut Lent) {
     l.gate_f.resize(l.gate_f_len + 4, 7.5);
 }
 
-type Fault = (&'static str, fn(&mut Lent, &mut Rng));
+pub type Fault = (&'static str, fn(&mut Lent, &mut Rng));
 
-const FAULTS: [Fault; 96] = [
+pub const FAULTS: [Fault; 96] = [
     ("no u16 store", |l, _| l.u_len = 0),
     ("u16 store of 1", |l, _| l.u_len = 1),
     ("u16 store of 2", |l, _| l.u_len = 2),

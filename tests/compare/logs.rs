@@ -2,9 +2,7 @@
 use crate::log_rows::{self, END};
 use crate::numbers::Rng;
 use crate::plain_log;
-use crate::roles::unless_stopped;
 use crate::tally::Tally;
-use crate::wolfcloak::TECHNICIAN;
 
 const SIZES: [usize; 7] = [1, 2, 7, 8, 9, 33, 512];
 
@@ -43,7 +41,7 @@ fn any_hops(rng: &mut Rng, n: usize, hops: usize, many: usize) -> (Vec<u64>, Vec
 fn write(t: &mut Tally, n: usize, db: &[u64], power: &[u32], room: usize) -> Option<Vec<u8>> {
     let (mut ours, mut plain, mut len) = (vec![0xa5; room], vec![0xa5; room], BEFORE);
     let answer = log_rows::write(n, db, power, &mut ours, &mut len);
-    let due = unless_stopped(TECHNICIAN, || plain_log::write(n, db, power, &mut plain));
+    let due = plain_log::write(n, db, power, &mut plain);
     t.answer(format_args!("log write, n = {n}, {} patterns, room for {room}", db.len()), answer, due.err().unwrap_or(0));
     t.check(len == due.unwrap_or(BEFORE), format_args!("log write, n = {n}: the length is {len}, and {due:?} is due"));
     t.check(ours == plain, format_args!("log write, n = {n}, {} patterns: the bytes differ", db.len()));
@@ -54,7 +52,7 @@ fn write(t: &mut Tally, n: usize, db: &[u64], power: &[u32], room: usize) -> Opt
 fn read(t: &mut Tally, log: &[u8], position: &mut usize, db: &mut Vec<u64>, power: &mut Vec<u32>) -> Result<bool, u16> {
     let (at, mut plain_at, mut plain_db, mut plain_power) = (*position, *position, db.clone(), power.clone());
     let answer = log_rows::read(log, position, db, power);
-    let due = unless_stopped(TECHNICIAN, || plain_log::read(log, &mut plain_at, &mut plain_db, &mut plain_power));
+    let due = plain_log::read(log, &mut plain_at, &mut plain_db, &mut plain_power);
     let number = due.map_or_else(|no| no, |is_hop| if is_hop { 0 } else { END });
     t.answer(format_args!("log read at {at} of {} bytes", log.len()), answer, number);
     t.check(*position == plain_at, format_args!("log read at {at}: the position is {position}, and {plain_at} is due"));
@@ -65,7 +63,7 @@ fn read(t: &mut Tally, log: &[u8], position: &mut usize, db: &mut Vec<u64>, powe
 /// Both readers from the start to the end or a refusal: the hops read, and the refusal.
 fn read_all(t: &mut Tally, log: &[u8]) -> (Vec<u64>, Vec<u32>, Option<u16>) {
     let mut n = BEFORE;
-    let due = unless_stopped(TECHNICIAN, || plain_log::channels(log));
+    let due = plain_log::channels(log);
     t.answer(format_args!("log channels of {} bytes", log.len()), log_rows::channels(log, &mut n), due.err().unwrap_or(0));
     t.check(n == due.unwrap_or(BEFORE), format_args!("log channels: {n}, and {due:?} is due"));
     let n = due.unwrap_or(1);
@@ -123,22 +121,6 @@ fn lengths(t: &mut Tally, log: &[u8], n: usize) {
             let _ = read(t, log, &mut position, &mut vec![7; dbs], &mut vec![7; powers]);
         }
     }
-}
-
-/// A log written and read, and each fault of either, in the role that the library is called in.
-pub fn in_a_role(t: &mut Tally, rng: &mut Rng) {
-    let (db, power) = any_hops(rng, 9, 2, 5);
-    let mut log = vec![0; 500];
-    let len = plain_log::write(9, &db, &power, &mut log).expect("there is room");
-    log.truncate(len);
-    for (n, room) in [(9, 500), (9, len - 1), (0, 500), (513, 0), (10, 1)] {
-        write(t, n, &db, &power, room);
-    }
-    write(t, 9, &db[1..], &power, 500);
-    for end in [len, len - 1, 3, 1, 0] {
-        read_all(t, &log[..end]);
-    }
-    lengths(t, &log, 9);
 }
 
 pub fn any_logs(t: &mut Tally, rng: &mut Rng) {

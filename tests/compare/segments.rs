@@ -1,9 +1,8 @@
 // the dispatcher beside document 02's words in plain Rust: every count, byte and last served; then long runs of ticks, the
 // fairness counted.
 use crate::numbers::Rng;
-use crate::roles::stopped_or;
 use crate::tally::Tally;
-use crate::wolfcloak::{dispatch, TECHNICIAN};
+use crate::wolfcloak::dispatch;
 
 const NONE_WAITING: u16 = 102;
 
@@ -22,17 +21,9 @@ fn due(count: usize, waiting: u8, last: usize) -> (u16, usize) {
 fn tick(t: &mut Tally, count: usize, waiting: u8, last: usize) -> (u16, usize) {
     let mut served = last;
     let got = (dispatch(count, waiting, &mut served), served);
-    let answered = due(count, waiting, last);
-    let want = if stopped_or(TECHNICIAN, 0) == 0 { answered } else { (16, last) };
+    let want = due(count, waiting, last);
     t.check(got == want, format_args!("dispatch({count}, {waiting:#04x}, {last}): {got:?}, and {want:?} is due"));
     got
-}
-
-/// Ticks that serve one, that serve none and that are refused, in the role that the library is called in.
-pub fn in_a_role(t: &mut Tally) {
-    for (count, waiting, last) in [(3, 5, 1), (3, 0, 1), (0, 0, 0), (9, 1, 0), (3, 8, 0), (3, 7, 3)] {
-        tick(t, count, waiting, last);
-    }
 }
 
 /// All counts that are taken and some that are not, all bytes, all last served.

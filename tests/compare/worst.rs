@@ -3,9 +3,8 @@
 use crate::decibels::plain_dbs;
 use crate::linear_rows;
 use crate::numbers::{any_f64, sample, same, Feed, Rng};
-use crate::roles::stopped_or;
 use crate::tally::Tally;
-use crate::wolfcloak::{self as lib, KEEPER, TECHNICIAN};
+use crate::wolfcloak as lib;
 
 pub const SPANS: [usize; 5] = [1, 2, 3, 599, 600];
 const SIZES: [usize; 3] = [1, 2, 33];
@@ -146,34 +145,6 @@ pub fn any_rings(t: &mut Tally, rng: &mut Rng) {
             let equal = got.1.to_bits() == want.1.to_bits() || got.1.is_nan() && want.1.is_nan();
             t.check(got.0 == want.0 && equal, format_args!("ring {ring:?}, next {next}, filled {filled}: {got:?}, and {want:?} is due"));
         }
-    }
-}
-
-/// Each call with a store that is in order and with faults of it, of the bank, the hop and the channel, in the role that the library is called in.
-pub fn in_a_role(t: &mut Tally) {
-    let role = lib::role();
-    lib::act_as(TECHNICIAN);
-    let made = fresh(t, 2, 3);
-    lib::act_as(role);
-    for (w, phase, dbs, k, due, read) in [
-        ([2, 3, 2, 2], 0, 2, 0, 0, 0), ([2, 3, 0, 0], 0, 2, 0, 0, NONE_YET), ([2, 3, 2, 2], 0, 1, 2, 5, 7), ([2, 3, 1, 2], 0, 1, 2, 9, 9),
-        ([3, 2, 0, 0], 0, 2, 0, 8, 8), ([2, 0, 0, 0], 15, 1, 2, 9, 9),
-    ] {
-        let mut s = Set { w: w.to_vec(), ..made.clone() };
-        s.u[1] = phase;
-        let before = s.clone();
-        let what = format!("role {role}, worst of late with {w:?}");
-        let (answer, value) = s.worst(k);
-        t.answer(format_args!("{what}: worst_floor"), answer, stopped_or(KEEPER, read));
-        t.check(answer == 0 || value == 7.5, format_args!("{what}: worst_floor wrote {value}"));
-        let answer = s.hear(true, &vec![-90.0; dbs], &[0.0; 2], false);
-        t.answer(format_args!("{what}: bank_update_worst"), answer, stopped_or(TECHNICIAN, due));
-        let kept = s.u == before.u && s.w == before.w && bits(&s.f) == bits(&before.f) && bits(&s.g) == bits(&before.g);
-        t.check(answer == 0 || kept, format_args!("{what}: bank_update_worst left something"));
-        let mut s = before.clone();
-        let answer = lib::worst_new(&mut s.w, &mut s.g, dbs, 3);
-        t.answer(format_args!("{what}: worst_new"), answer, stopped_or(TECHNICIAN, if dbs == 2 { 0 } else { 2 }));
-        t.check(answer == 0 || s.w == before.w && bits(&s.g) == bits(&before.g), format_args!("{what}: worst_new left something"));
     }
 }
 
