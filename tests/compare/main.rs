@@ -34,7 +34,6 @@ mod tally;
 mod wolfcloak;
 mod worst;
 
-use history::SETTINGS;
 use numbers::Rng;
 use rules::Alone;
 use runs::{LENGTHS, PLANS};
@@ -49,8 +48,7 @@ const SIZES: [usize; 13] = [1, 2, 3, 4, 5, 6, 31, 32, 33, 64, 65, 511, 512];
 fn job(i: usize, seed: u64, alone: &mut Alone) -> Option<Tally> {
     let mut t = Tally::default();
     let mut rng = Rng(seed ^ (i as u64) << 32);
-    let histories = SETTINGS.len();
-    let lists = histories + louder::PAIRS;
+    let lists = history::PAIRS + louder::PAIRS;
     let spans = lists + worst::SPANS.len();
     if i == 0 {
         faults::any_n(&mut t, &mut rng);
@@ -73,10 +71,10 @@ fn job(i: usize, seed: u64, alone: &mut Alone) -> Option<Tally> {
         }
         worst::refusals(&mut t);
         worst::any_rings(&mut t, &mut rng);
-    } else if i <= histories {
-        history::any_histories(&mut t, &SETTINGS[i - 1], &mut rng);
+    } else if i <= history::PAIRS {
+        history::any_histories(&mut t, i - 1, &mut rng);
     } else if i <= lists {
-        louder::any_pair(&mut t, i - histories - 1, &mut rng);
+        louder::any_pair(&mut t, i - history::PAIRS - 1, &mut rng);
     } else if i <= spans {
         worst::runs(&mut t, worst::SPANS[i - lists - 1], &mut rng);
     } else if i <= spans + SIZES.len() {
@@ -135,7 +133,7 @@ fn main() {
     t.check(floors > 0 && rises > 0 || jobs < usize::MAX, format_args!("histories made no difference before the end of the further list"));
     t.check(t.untrue > 0 || jobs < usize::MAX, format_args!("untrue pairs never made a difference"));
     t.first.iter().for_each(|d| println!("difference: {d}"));
-    println!("{} pairs of histories: floors parted for a while in {floors}, rises in {rises}", SETTINGS.len());
+    println!("{} pairs of histories: floors parted for a while in {floors}, rises in {rises}", history::PAIRS);
     println!("{} marks were given by untrue pairs", t.untrue);
     println!(
         "seed {seed}: {} channel-hops, {} rises, {} drops, {} comparisons, {} differences",
