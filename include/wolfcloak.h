@@ -5,10 +5,10 @@
  * caller lends to each call. A slice is a pointer and then its length in elements. No pointer may be NULL, that of an empty
  * slice neither, and what a call writes may not overlap anything else lent to it.
  *
- * Every call but those that say a length takes first the role of who makes it, and answers 0 or the number of the first refusal that is
- * due: 16 before all others, for a role that lacks the right. A refusal changes nothing: stores, outputs and values
- * hold what they held before. Any contents of a store and any bits of a float may be handed in; a call tests the whole of each
- * store that it is lent first.
+ * Every call takes first the role of who makes it, and answers 0 or the number of the first refusal that is due: 16 before all others, for
+ * a role that lacks the right. (Those that only say a length, and wolfcloak_power_db, refuse nothing and take no role.) A refusal changes
+ * nothing: stores, outputs and values hold what they held before. Any contents of a store and any bits of a float may be handed in; a call tests
+ * the whole of each store that it is lent first.
  *
  * A bank is made once, by wolfcloak_bank_new, and fed one hop at a time (375 a second). Every 15th hop, the first among
  * them, is a slow hop: it steps the floors. A gate of the same n is made once, by wolfcloak_gate_new, and fed the same hops after
@@ -31,7 +31,7 @@ extern "C" {
 #define WOLFCLOAK_REFUSED_BAND 1       /* making: n outside 1..512 */
 #define WOLFCLOAK_REFUSED_STORE_SIZE 2 /* a store's length isn't the one for its n */
 #define WOLFCLOAK_REFUSED_LENGTHS 3    /* making a gate: no window length, over 8, or one outside 1..375 */
-#define WOLFCLOAK_REFUSED_LEVEL 4      /* making a gate: a level outside -800..800 eighths of a dB, and not an absent early */
+#define WOLFCLOAK_REFUSED_LEVEL 4      /* making or remaking a gate: a level outside -800..800 eighths of a dB, and not an absent early */
 #define WOLFCLOAK_REFUSED_HOP_SIZE 5   /* a hop or output slice isn't n long */
 #define WOLFCLOAK_REFUSED_GARBLED 6    /* a slow hop with a NaN dB in a block of two or more channels */
 #define WOLFCLOAK_REFUSED_CHANNEL 7    /* channel number n or more */
@@ -52,16 +52,22 @@ extern "C" {
 
 /*
  * Who may turn what. A set is shared between a watch keeper, a team leader and a service technician; the receiver itself acts as
- * technician. Each may do what those before may.
+ * technician. A role is one of the three numbers below, and each may do what those before it may. Every call stands here once, without the
+ * wolfcloak_ of its name, in the row of the least role that has the right.
  *
  *   keeper        reads: channel_floor_db, effective_floor_db, rise_floor_db, spectral_reference, floors, ring, smoothed_db, ema_rise,
- *                 worst_floor, map_read, map_wire; explain
- *   leader        also writes masks and clears flags: map_write; and remakes a gate: gate_remake
- *   technician    everything else: bank_new, bank_update, bank_update_holding_reference, worst_new, bank_update_worst, gate_new,
- *                 gate_update, gate_hold, map_new, gate_update_map, gate_hold_map, log_write, log_channels, log_read, log_combine, dispatch
+ *                 worst_floor, map_read, map_wire; and explain
+ *   leader        writes masks and clears flags: map_write; remakes a gate: gate_remake
+ *   technician    makes: bank_new, gate_new, worst_new, map_new
+ *                 updates: bank_update, bank_update_holding_reference, bank_update_worst, bank_update_linear, bank_update_linear_worst,
+ *                 gate_update, gate_update_map, gate_update_linear, gate_update_linear_map
+ *                 holds: gate_hold, gate_hold_map
+ *                 reads, writes and combines logs: log_channels, log_read, log_write, log_combine
+ *                 serves segments: dispatch
+ *   no role       bank_len, bank_f_len, gate_f_len, worst_f_len, map_len; power_db
  *
- * So calls by keepers alone leave every store as it was, and calls by leaders alone change no bank, no worst floor and no log. A call that is stopped
- * counts for nothing: it is no hop that was heard.
+ * So calls by keepers alone leave every store as it was, and calls by leaders alone change no bank, no worst floor and no log. A call that is
+ * stopped counts for nothing: it is no hop that was heard.
  */
 #define WOLFCLOAK_KEEPER 0
 #define WOLFCLOAK_LEADER 1

@@ -15,6 +15,7 @@ mod floor;
 mod history;
 mod layout;
 mod linear_rows;
+mod listed;
 mod log_rows;
 mod logs;
 mod louder;
@@ -61,6 +62,7 @@ fn job(i: usize, seed: u64, alone: &mut Alone) -> Option<Tally> {
         logs::any_logs(&mut t, &mut rng);
         antennas::any_antennas(&mut t, &mut rng);
         roles::each_role(&mut t, &mut rng);
+        listed::whole(&mut t);
         segments::all_ticks(&mut t);
         segments::fair_runs(&mut t, &mut rng);
         louder::no_more(&mut t);

@@ -13,7 +13,7 @@ use std::collections::BTreeSet;
 const ROLES: [u16; 5] = [0, 1, 2, 3, 65535];
 
 /// The table of rights, as the papers have it: each call's name, the least role that has the right, and all that it answers a technician.
-const CALLS: [(&str, u16, &[u16], fn(Parts) -> u16); 34] = [
+pub const CALLS: [(&str, u16, &[u16], fn(Parts) -> u16); 34] = [
     ("channel_floor_db", KEEPER, &[0, 2, 7, 9], |p| lib::channel_floor_db(p.u, p.f, p.k, &mut p.values[0])),
     ("effective_floor_db", KEEPER, &[0, 2, 7, 9], |p| lib::effective_floor_db(p.u, p.f, p.k, &mut p.values[0])),
     ("rise_floor_db", KEEPER, &[0, 2, 7, 9], |p| lib::rise_floor_db(p.u, p.f, p.k, &mut p.values[0])),
@@ -58,6 +58,11 @@ const CALLS: [(&str, u16, &[u16], fn(Parts) -> u16); 34] = [
     ("dispatch", TECHNICIAN, &[0, 14, 102], |p| lib::dispatch(p.count, p.waiting, p.last)),
 ];
 
+/// The least role that has the right to a call that takes one.
+pub fn least(name: &str) -> Option<u16> {
+    CALLS.iter().find(|call| call.0 == name).map(|call| call.1)
+}
+
 /// All that some call is lent.
 #[derive(Clone)]
 struct Set {
@@ -86,7 +91,7 @@ struct Set {
 }
 
 /// The same, as it is lent.
-struct Parts<'a> {
+pub struct Parts<'a> {
     u: &'a mut [u16],
     f: &'a mut [f64],
     db: &'a [f64],

@@ -324,6 +324,11 @@ static void registers(void)
     value = 7;
     expect("address 6", wolfcloak_map_read(me, gate, 30, gate_f, g, map, 6, 6, &value), WOLFCLOAK_REFUSED_ADDRESS);
     expect("what a refusal leaves", value, 7);
+    map[0] = 1;
+    expect("a keeper's write", wolfcloak_map_write(WOLFCLOAK_KEEPER, gate, 30, gate_f, g, map, 6, 0, 255), WOLFCLOAK_REFUSED_RIGHT);
+    expect("the flag that it would have cleared", map[0], 1);
+    expect("a leader's write", wolfcloak_map_write(WOLFCLOAK_LEADER, gate, 30, gate_f, g, map, 6, 0, 255), WOLFCLOAK_OK);
+    expect("the flag that it has cleared", map[0], 0);
     map[5] = 2;
     expect("a bit past n", wolfcloak_map_write(me, gate, 30, gate_f, g, map, 6, 6, 0), WOLFCLOAK_REFUSED_UNSOUND);
     free(nine);
@@ -340,6 +345,8 @@ static void linear_hops(void)
     uint16_t with_db[TWO], linear[TWO], gate[2][WOLFCLOAK_GATE_LEN];
     double with_db_f[10], linear_f[10], gate_f[2][14];
     uint8_t rise[2][2] = {{9, 9}, {8, 8}}, drop[2][2] = {{9, 9}, {8, 8}}, map[3];
+    uint16_t worst[2][WOLFCLOAK_WORST_LEN];
+    double worst_f[2][4];
 
     expect("dB of no power", wolfcloak_power_db(0), -200);
     expect("dB of 1", wolfcloak_power_db(1), 0);
@@ -370,9 +377,45 @@ static void linear_hops(void)
                                                                       rise[1], 2, drop[1], 2), WOLFCLOAK_OK);
     expect("rise flags", map[0], rise[1][0] + 2 * rise[1][1]);
     expect("drop flags", map[1], drop[1][0] + 2 * drop[1][1]);
+    for (int w = 0; w < 2; w++)
+        expect("worst_new", wolfcloak_worst_new(me, worst[w], 4, worst_f[w], 4, 2, 2), WOLFCLOAK_OK);
+    for (int hop = 0; hop < 20; hop++) {
+        expect("bank_update_worst", wolfcloak_bank_update_worst(me, with_db, TWO, with_db_f, 10, worst[0], 4, worst_f[0], 4, db, 2, loud, 2, false),
+               WOLFCLOAK_OK);
+        expect("bank_update_linear_worst",
+               wolfcloak_bank_update_linear_worst(me, linear, TWO, linear_f, 10, worst[1], 4, worst_f[1], 4, loud, 2, false), WOLFCLOAK_OK);
+    }
+    expect("the bank's words, carrying", memcmp(with_db, linear, sizeof linear), 0);
+    expect("the worst floor's words", memcmp(worst[0], worst[1], sizeof worst[0]), 0);
+    expect("the worst floor's floats", memcmp(worst_f[0], worst_f[1], sizeof worst_f[0]), 0);
+    expect("the worst floor's slow hops", worst[1][3] > 0, 1);
     linear[1] = 0;
     expect("a NaN power on a slow hop", wolfcloak_bank_update_linear(me, linear, TWO, linear_f, 10, garbled, 2, false), WOLFCLOAK_OK);
     expect("a power too few", wolfcloak_bank_update_linear(me, linear, TWO, linear_f, 10, loud, 1, false), WOLFCLOAK_REFUSED_HOP_SIZE);
+}
+
+/* A leader remakes a gate that has heard a tone: it is as if it had been made with the new levels. The checks in their order before. */
+static void remade(void)
+{
+    static const uint16_t lengths[3] = {2, 1, 2};
+    uint16_t gate[WOLFCLOAK_GATE_LEN], fresh[WOLFCLOAK_GATE_LEN];
+    double gate_f[26], fresh_f[26]; /* 2 + (8 + 2 + 2) + (4 + 2 + 2) + 2 + 2 */
+    uint8_t rise[2], drop[2];
+
+    expect("gate_new", wolfcloak_gate_new(me, gate, 30, gate_f, 26, 2, 48, 16, 80, lengths, 3), WOLFCLOAK_OK);
+    expect("gate_update", wolfcloak_gate_update(me, bank, TWO, bank_f, 10, gate, 30, gate_f, 26, tone_db, 2, tone, 2, rise, 2, drop, 2),
+           WOLFCLOAK_OK);
+    memcpy(fresh, gate, sizeof gate);
+    memcpy(fresh_f, gate_f, sizeof gate_f);
+    expect("a keeper's remake", wolfcloak_gate_remake(WOLFCLOAK_KEEPER, gate, 29, gate_f, 26, 801, 0, 0), WOLFCLOAK_REFUSED_RIGHT);
+    expect("a leader's of a short gate", wolfcloak_gate_remake(WOLFCLOAK_LEADER, gate, 29, gate_f, 26, 801, 0, 0), WOLFCLOAK_REFUSED_STORE_SIZE);
+    expect("a level too high", wolfcloak_gate_remake(WOLFCLOAK_LEADER, gate, 30, gate_f, 26, 801, 0, 0), WOLFCLOAK_REFUSED_LEVEL);
+    expect("words after a refusal", memcmp(gate, fresh, sizeof gate), 0);
+    expect("floats after a refusal", memcmp(gate_f, fresh_f, sizeof gate_f), 0);
+    expect("gate_remake", wolfcloak_gate_remake(WOLFCLOAK_LEADER, gate, 30, gate_f, 26, 8, -8, WOLFCLOAK_NO_EARLY), WOLFCLOAK_OK);
+    expect("gate_new", wolfcloak_gate_new(me, fresh, 30, fresh_f, 26, 2, 8, -8, WOLFCLOAK_NO_EARLY, lengths, 3), WOLFCLOAK_OK);
+    expect("a remade gate's words", memcmp(gate, fresh, sizeof gate), 0);
+    expect("a remade gate's floats", memcmp(gate_f, fresh_f, sizeof gate_f), 0);
 }
 
 /* A role that lacks the right gets 16 before what else is due, and nothing is written. */
@@ -412,6 +455,7 @@ int main(void)
     worst_of_late();
     ticks();
     registers();
+    remade();
     roles();
     puts(wrong ? "tests/link: failed" : "tests/link: ok");
     return wrong != 0;
