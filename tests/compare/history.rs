@@ -201,7 +201,7 @@ type Setting = (usize, &'static [u16], i32, [usize; 2], [usize; 2]);
 
 const SETTINGS: [Setting; 8] = [
     (1, &[375], ABSENT, [0, 0], [4500, 750]),
-    (1, &[1, 375, 2, 3, 125], ABSENT, [3, 5], [1503, 2255]),
+    (1, &[1, 375, 2, 3, 125], ABSENT, [3, 5], [1503, 3005]),
     (2, &[1, 3, 5, 15, 25, 75, 125, 375], ABSENT, [7, 11], [3907, 1511]),
     (2, &[375, 75], ABSENT, [1509, 749], [4509, 1499]),
     (33, &[15, 75, 375], ABSENT, [14, 700], [1214, 1450]),
@@ -219,6 +219,8 @@ pub const PAIRS: usize = 2 * SETTINGS.len();
 pub fn any_histories(t: &mut Tally, i: usize, rng: &mut Rng) {
     let (n, lengths, early, a, b) = SETTINGS[i % SETTINGS.len()];
     let is_remade = i >= SETTINGS.len();
+    let meets = (b[0] - a[0]) % DECIMATION_HOPS == 0 && lengths.iter().all(|&m| (b[1] - a[1]) % (2 * m as usize) == 0);
+    t.check(meets, format_args!("history, n {n}, {lengths:?}: {a:?} and {b:?} are not equal modulo 15 and twice every length"));
     let levels = [rng.pick(&[0, 16, 40]), 16, early];
     let mut one = Set::new(n, levels, lengths).keeping(1 + rng.below(600));
     let mut other = one.clone().keeping(1 + rng.below(600));
