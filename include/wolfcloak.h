@@ -5,9 +5,10 @@
  * caller lends to each call. A slice is a pointer and then its length in elements. No pointer may be NULL, that of an empty
  * slice neither, and what a call writes may not overlap anything else lent to it.
  *
- * Every call answers 0, or the number of the first refusal that is due. A refusal changes nothing: stores, outputs and values
- * hold what they held before. Any contents of a store and any bits of a float may be handed in; a call tests the whole of each
- * store that it is lent first.
+ * Every call takes first the role of who makes it, and answers 0 or the number of the first refusal that is due: 16 before all others, for
+ * a role that lacks the right. (Those that only say a length, and wolfcloak_power_db, refuse nothing and take no role.) A refusal changes
+ * nothing: stores, outputs and values hold what they held before. Any contents of a store and any bits of a float may be handed in; a call tests
+ * the whole of each store that it is lent first.
  *
  * A bank is made once, by wolfcloak_bank_new, and fed one hop at a time (375 a second). Every 15th hop, the first among
  * them, is a slow hop: it steps the floors. A gate of the same n is made once, by wolfcloak_gate_new, and fed the same hops after
@@ -30,7 +31,7 @@ extern "C" {
 #define WOLFCLOAK_REFUSED_BAND 1       /* making: n outside 1..512 */
 #define WOLFCLOAK_REFUSED_STORE_SIZE 2 /* a store's length isn't the one for its n */
 #define WOLFCLOAK_REFUSED_LENGTHS 3    /* making a gate: no window length, over 8, or one outside 1..375 */
-#define WOLFCLOAK_REFUSED_LEVEL 4      /* making a gate: a level outside -800..800 eighths of a dB, and not an absent early */
+#define WOLFCLOAK_REFUSED_LEVEL 4      /* making or remaking a gate: a level outside -800..800 eighths of a dB, and not an absent early */
 #define WOLFCLOAK_REFUSED_HOP_SIZE 5   /* a hop or output slice isn't n long */
 #define WOLFCLOAK_REFUSED_GARBLED 6    /* a slow hop with a NaN dB in a block of two or more channels */
 #define WOLFCLOAK_REFUSED_CHANNEL 7    /* channel number n or more */
@@ -42,14 +43,35 @@ extern "C" {
 #define WOLFCLOAK_REFUSED_UNLIKE 13    /* two logs that differ in n or in their number of hops */
 #define WOLFCLOAK_REFUSED_SEGMENTS 14  /* a tick: count outside 1..8, a bit set past count, or a last served not below count */
 #define WOLFCLOAK_REFUSED_ADDRESS 15   /* a register's address past the map */
-
-/* A number of calls that are still to come; none of those below answers it. */
-#define WOLFCLOAK_REFUSED_RIGHT 16     /* a role that isn't there, or one that lacks the right */
+#define WOLFCLOAK_REFUSED_RIGHT 16     /* a role above 2, or one that lacks the right to this call */
 
 /* Answers that are no refusals, with which nothing is written either. */
 #define WOLFCLOAK_END 100              /* the log has no further hop */
 #define WOLFCLOAK_NONE_YET 101         /* the worst floor of late: no slow hop has carried the store yet */
 #define WOLFCLOAK_NONE_WAITING 102     /* a tick: no segment has a hop waiting */
+
+/*
+ * Who may turn what. A set is shared between a watch keeper, a team leader and a service technician; the receiver itself acts as
+ * technician. A role is one of the three numbers below, and each may do what those before it may. Every call stands here once, without the
+ * wolfcloak_ of its name, in the row of the least role that has the right.
+ *
+ *   keeper        reads: channel_floor_db, effective_floor_db, rise_floor_db, spectral_reference, floors, ring, smoothed_db, ema_rise,
+ *                 worst_floor, map_read, map_wire; and explain
+ *   leader        writes masks and clears flags: map_write; remakes a gate: gate_remake
+ *   technician    makes: bank_new, gate_new, worst_new, map_new
+ *                 updates: bank_update, bank_update_holding_reference, bank_update_worst, bank_update_linear, bank_update_linear_worst,
+ *                 gate_update, gate_update_map, gate_update_linear, gate_update_linear_map
+ *                 holds: gate_hold, gate_hold_map
+ *                 reads, writes and combines logs: log_channels, log_read, log_write, log_combine
+ *                 serves segments: dispatch
+ *   no role       bank_len, bank_f_len, gate_f_len, worst_f_len, map_len; power_db
+ *
+ * So calls by keepers alone leave every store as it was, and calls by leaders alone change no bank, no worst floor and no log. A call that is
+ * stopped counts for nothing: it is no hop that was heard.
+ */
+#define WOLFCLOAK_KEEPER 0
+#define WOLFCLOAK_LEADER 1
+#define WOLFCLOAK_TECHNICIAN 2
 
 /* ---- the bank: a noise floor for each of n channels, 1 to 512 ---- */
 
@@ -65,21 +87,21 @@ size_t wolfcloak_bank_f_len(size_t n);
  * Makes a fresh bank of n channels in the two stores, whatever they held: bank has to be wolfcloak_bank_len(n) long and bank_f
  * wolfcloak_bank_f_len(n). Every floor is -160 dB until the first update. Refuses with 1, then 2.
  */
-uint16_t wolfcloak_bank_new(uint16_t *bank, size_t bank_len, double *bank_f, size_t bank_f_len, size_t n);
+uint16_t wolfcloak_bank_new(uint16_t role, uint16_t *bank, size_t bank_len, double *bank_f, size_t bank_f_len, size_t n);
 
 /*
  * One hop: power_db and power are the power of each channel in that hop, in dB and linear, both n long. power steps the
  * smoothed powers behind the spectral reference; power_db steps the floors, on a slow hop only.
  * Refuses with 2 or 9 for the stores, then 5, then 6 (on a slow hop only; such a hop doesn't count, so the next is the slow one).
  */
-uint16_t wolfcloak_bank_update(uint16_t *bank, size_t bank_len, double *bank_f, size_t bank_f_len,
+uint16_t wolfcloak_bank_update(uint16_t role, uint16_t *bank, size_t bank_len, double *bank_f, size_t bank_f_len,
                                const double *power_db, size_t power_db_len, const float *power, size_t power_len);
 
 /*
  * The same; with hold_reference the smoothed powers stay as they are, for a hop of static. The first hop of a bank always sets
  * them.
  */
-uint16_t wolfcloak_bank_update_holding_reference(uint16_t *bank, size_t bank_len, double *bank_f, size_t bank_f_len,
+uint16_t wolfcloak_bank_update_holding_reference(uint16_t role, uint16_t *bank, size_t bank_len, double *bank_f, size_t bank_f_len,
                                                  const double *power_db, size_t power_db_len,
                                                  const float *power, size_t power_len, bool hold_reference);
 
@@ -88,25 +110,25 @@ uint16_t wolfcloak_bank_update_holding_reference(uint16_t *bank, size_t bank_len
  */
 
 /* The raw floor in dB: the lower quartile of the channel's last 250 slow hops, in bins of half a dB from -160 to 0. */
-uint16_t wolfcloak_channel_floor_db(const uint16_t *bank, size_t bank_len, const double *bank_f, size_t bank_f_len,
+uint16_t wolfcloak_channel_floor_db(uint16_t role, const uint16_t *bank, size_t bank_len, const double *bank_f, size_t bank_f_len,
                                     size_t k, double *value);
 
 /* The effective floor in dB, by which drops and signal-to-noise ratios are judged: at most 3 dB over the floor of the
  * channel's block of 32, and in the first second not below the block's seed. */
-uint16_t wolfcloak_effective_floor_db(const uint16_t *bank, size_t bank_len, const double *bank_f, size_t bank_f_len,
+uint16_t wolfcloak_effective_floor_db(uint16_t role, const uint16_t *bank, size_t bank_len, const double *bank_f, size_t bank_f_len,
                                       size_t k, double *value);
 
 /* The rise floor in dB, by which window rises are judged: the effective floor, not below the floor of the block. */
-uint16_t wolfcloak_rise_floor_db(const uint16_t *bank, size_t bank_len, const double *bank_f, size_t bank_f_len,
+uint16_t wolfcloak_rise_floor_db(uint16_t role, const uint16_t *bank, size_t bank_len, const double *bank_f, size_t bank_f_len,
                                  size_t k, double *value);
 
 /* The spectral reference, linear: the least smoothed power of the channels k±2, k±3, k±4, wrapping; NaNs are passed over, and
  * +infinity is the answer where there is nothing else. */
-uint16_t wolfcloak_spectral_reference(const uint16_t *bank, size_t bank_len, const double *bank_f, size_t bank_f_len,
+uint16_t wolfcloak_spectral_reference(uint16_t role, const uint16_t *bank, size_t bank_len, const double *bank_f, size_t bank_f_len,
                                       size_t k, double *value);
 
 /* The effective, rise and raw floor at once; all three are written, or none. */
-uint16_t wolfcloak_floors(const uint16_t *bank, size_t bank_len, const double *bank_f, size_t bank_f_len,
+uint16_t wolfcloak_floors(uint16_t role, const uint16_t *bank, size_t bank_len, const double *bank_f, size_t bank_f_len,
                           size_t k, double *effective, double *rise, double *raw);
 
 /* Where the effective floor comes from .. */
@@ -124,11 +146,11 @@ uint16_t wolfcloak_floors(const uint16_t *bank, size_t bank_len, const double *b
  * rule yields; all four are written, or none. Where two rules give the same, the first in the order above is named. Both floors are
  * worked out from the stores for this: after wolfcloak_bank_new and updates alone they are the readings above.
  */
-uint16_t wolfcloak_explain(const uint16_t *bank, size_t bank_len, const double *bank_f, size_t bank_f_len,
-                           size_t k, uint8_t *effective_origin, double *effective, uint8_t *rise_origin, double *rise);
+uint16_t wolfcloak_explain(uint16_t role, const uint16_t *bank, size_t bank_len, const double *bank_f, size_t bank_f_len, size_t k,
+                           uint8_t *effective_origin, double *effective, uint8_t *rise_origin, double *rise);
 
 /* Where in bank the ring of channel k lies: bank[*start] to bank[*start + *len - 1], its last 250 bins, 0 to 319. */
-uint16_t wolfcloak_ring(const uint16_t *bank, size_t bank_len, const double *bank_f, size_t bank_f_len,
+uint16_t wolfcloak_ring(uint16_t role, const uint16_t *bank, size_t bank_len, const double *bank_f, size_t bank_f_len,
                         size_t k, size_t *start, size_t *len);
 
 /* ---- the gate: rise and drop marks for each channel of a bank ---- */
@@ -148,8 +170,15 @@ size_t wolfcloak_gate_f_len(size_t n, const uint16_t *lengths, size_t lengths_le
  * WOLFCLOAK_NO_EARLY. lengths has 1 to 8 window lengths of 1 to 375 hops; doubles are dropped.
  * Refuses with 1, then 3, 4, 2.
  */
-uint16_t wolfcloak_gate_new(uint16_t *gate, size_t gate_len, double *gate_f, size_t gate_f_len, size_t n,
+uint16_t wolfcloak_gate_new(uint16_t role, uint16_t *gate, size_t gate_len, double *gate_f, size_t gate_f_len, size_t n,
                             int32_t on, int32_t off, int32_t early, const uint16_t *lengths, size_t lengths_len);
+
+/*
+ * Makes a gate that is there anew with other levels, as wolfcloak_gate_new takes them: its n and its window lengths stay, and the rest is
+ * as that leaves it, fresh. Refuses with 2 or 9 for the gate's stores, then 4.
+ */
+uint16_t wolfcloak_gate_remake(uint16_t role, uint16_t *gate, size_t gate_len, double *gate_f, size_t gate_f_len,
+                               int32_t on, int32_t off, int32_t early);
 
 /*
  * One hop, after the bank's update with the same hop: steps the smoothed dB and the windows, works out the threshold of each channel
@@ -159,7 +188,7 @@ uint16_t wolfcloak_gate_new(uint16_t *gate, size_t gate_len, double *gate_f, siz
  * below the off level over its effective floor. Between two eighths of a dB, the on level over the rise floor is the upper one.
  * Refuses with 2 or 9 for the bank's stores, then for the gate's, then 8, then 5.
  */
-uint16_t wolfcloak_gate_update(const uint16_t *bank, size_t bank_len, const double *bank_f, size_t bank_f_len,
+uint16_t wolfcloak_gate_update(uint16_t role, const uint16_t *bank, size_t bank_len, const double *bank_f, size_t bank_f_len,
                                uint16_t *gate, size_t gate_len, double *gate_f, size_t gate_f_len,
                                const double *power_db, size_t power_db_len, const float *power, size_t power_len,
                                uint8_t *rise, size_t rise_len, uint8_t *drop, size_t drop_len);
@@ -170,17 +199,17 @@ uint16_t wolfcloak_gate_update(const uint16_t *bank, size_t bank_len, const doub
  * and drop, and nothing to gate_f.
  * Refuses as the update does.
  */
-uint16_t wolfcloak_gate_hold(const uint16_t *bank, size_t bank_len, const double *bank_f, size_t bank_f_len,
+uint16_t wolfcloak_gate_hold(uint16_t role, const uint16_t *bank, size_t bank_len, const double *bank_f, size_t bank_f_len,
                              const uint16_t *gate, size_t gate_len, double *gate_f, size_t gate_f_len,
                              uint8_t *rise, size_t rise_len, uint8_t *drop, size_t drop_len);
 
 /* The smoothed dB of channel k; 0 before the first update. Refuses with 2 or 9 for the gate's stores, then 7. */
-uint16_t wolfcloak_smoothed_db(const uint16_t *gate, size_t gate_len, const double *gate_f, size_t gate_f_len,
+uint16_t wolfcloak_smoothed_db(uint16_t role, const uint16_t *gate, size_t gate_len, const double *gate_f, size_t gate_f_len,
                                size_t k, double *value);
 
 /* The early rise of channel k alone, 1.0 or 0.0; 0.0 before the first update and where early is absent.
  * Refuses with 2 or 9 for the bank's stores, then for the gate's, then 8, then 7. */
-uint16_t wolfcloak_ema_rise(const uint16_t *bank, size_t bank_len, const double *bank_f, size_t bank_f_len,
+uint16_t wolfcloak_ema_rise(uint16_t role, const uint16_t *bank, size_t bank_len, const double *bank_f, size_t bank_f_len,
                             const uint16_t *gate, size_t gate_len, const double *gate_f, size_t gate_f_len,
                             size_t k, double *value);
 
@@ -206,13 +235,13 @@ size_t wolfcloak_worst_f_len(size_t n, size_t w);
  * Makes a fresh one in the two stores, whatever they held: worst has to be WOLFCLOAK_WORST_LEN long and worst_f
  * wolfcloak_worst_f_len(n, w). Refuses with 1, then 12, then 2.
  */
-uint16_t wolfcloak_worst_new(uint16_t *worst, size_t worst_len, double *worst_f, size_t worst_f_len, size_t n, size_t w);
+uint16_t wolfcloak_worst_new(uint16_t role, uint16_t *worst, size_t worst_len, double *worst_f, size_t worst_f_len, size_t n, size_t w);
 
 /*
  * The bank's update of one hop, held or not, that carries the store: on a slow hop each channel's effective floor, as it is after
  * the hop, enters. Refuses with 2 or 9 for the bank's stores, then for these, then 8, then 5, then 6.
  */
-uint16_t wolfcloak_bank_update_worst(uint16_t *bank, size_t bank_len, double *bank_f, size_t bank_f_len,
+uint16_t wolfcloak_bank_update_worst(uint16_t role, uint16_t *bank, size_t bank_len, double *bank_f, size_t bank_f_len,
                                      uint16_t *worst, size_t worst_len, double *worst_f, size_t worst_f_len,
                                      const double *power_db, size_t power_db_len, const float *power, size_t power_len,
                                      bool hold_reference);
@@ -221,7 +250,7 @@ uint16_t wolfcloak_bank_update_worst(uint16_t *bank, size_t bank_len, double *ba
  * The highest effective floor of channel k in dB over the last w slow hops that carried the store, or over those so far; before the
  * first it answers WOLFCLOAK_NONE_YET. Refuses with 2 or 9 for the bank's stores, then for these, then 8, then 7.
  */
-uint16_t wolfcloak_worst_floor(const uint16_t *bank, size_t bank_len, const double *bank_f, size_t bank_f_len,
+uint16_t wolfcloak_worst_floor(uint16_t role, const uint16_t *bank, size_t bank_len, const double *bank_f, size_t bank_f_len,
                                const uint16_t *worst, size_t worst_len, const double *worst_f, size_t worst_f_len,
                                size_t k, double *value);
 
@@ -249,31 +278,31 @@ uint16_t wolfcloak_worst_floor(const uint16_t *bank, size_t bank_len, const doub
 size_t wolfcloak_map_len(size_t n);
 
 /* Makes a fresh map for the gate, all 0, whatever it held. */
-uint16_t wolfcloak_map_new(const uint16_t *gate, size_t gate_len, const double *gate_f, size_t gate_f_len,
+uint16_t wolfcloak_map_new(uint16_t role, const uint16_t *gate, size_t gate_len, const double *gate_f, size_t gate_f_len,
                            uint8_t *map, size_t map_len);
 
 /*
  * As wolfcloak_gate_update and wolfcloak_gate_hold, with the map: besides, the flag of each mark that is 1 is set, and no other bit changes.
  * They refuse with 2 or 9 for the bank's stores, then for the gate's, then for the map, then 8, then 5.
  */
-uint16_t wolfcloak_gate_update_map(const uint16_t *bank, size_t bank_len, const double *bank_f, size_t bank_f_len,
+uint16_t wolfcloak_gate_update_map(uint16_t role, const uint16_t *bank, size_t bank_len, const double *bank_f, size_t bank_f_len,
                                    uint16_t *gate, size_t gate_len, double *gate_f, size_t gate_f_len,
                                    uint8_t *map, size_t map_len,
                                    const double *power_db, size_t power_db_len, const float *power, size_t power_len,
                                    uint8_t *rise, size_t rise_len, uint8_t *drop, size_t drop_len);
-uint16_t wolfcloak_gate_hold_map(const uint16_t *bank, size_t bank_len, const double *bank_f, size_t bank_f_len,
+uint16_t wolfcloak_gate_hold_map(uint16_t role, const uint16_t *bank, size_t bank_len, const double *bank_f, size_t bank_f_len,
                                  const uint16_t *gate, size_t gate_len, double *gate_f, size_t gate_f_len,
                                  uint8_t *map, size_t map_len,
                                  uint8_t *rise, size_t rise_len, uint8_t *drop, size_t drop_len);
 
 /* The register at an address, read to *value or written; after the stores, 15 for an address of 3w or more. */
-uint16_t wolfcloak_map_read(const uint16_t *gate, size_t gate_len, const double *gate_f, size_t gate_f_len,
+uint16_t wolfcloak_map_read(uint16_t role, const uint16_t *gate, size_t gate_len, const double *gate_f, size_t gate_f_len,
                             const uint8_t *map, size_t map_len, size_t address, uint8_t *value);
-uint16_t wolfcloak_map_write(const uint16_t *gate, size_t gate_len, const double *gate_f, size_t gate_f_len,
+uint16_t wolfcloak_map_write(uint16_t role, const uint16_t *gate, size_t gate_len, const double *gate_f, size_t gate_f_len,
                              uint8_t *map, size_t map_len, size_t address, uint8_t value);
 
 /* The wire: *up becomes 1 where some flag, rise or drop, and its channel's mask bit are both 1, else 0. */
-uint16_t wolfcloak_map_wire(const uint16_t *gate, size_t gate_len, const double *gate_f, size_t gate_f_len,
+uint16_t wolfcloak_map_wire(uint16_t role, const uint16_t *gate, size_t gate_len, const double *gate_f, size_t gate_f_len,
                             const uint8_t *map, size_t map_len, uint8_t *up);
 
 /* ---- linear power alone: for a receiver that delivers no dB ---- */
@@ -288,23 +317,23 @@ double wolfcloak_power_db(float power);
  * One hop as for wolfcloak_bank_update_holding_reference, with the dB of each power as wolfcloak_power_db gives it.
  * Refuses with 2 or 9 for the stores, then 5: none of these dB is a NaN, so never with 6.
  */
-uint16_t wolfcloak_bank_update_linear(uint16_t *bank, size_t bank_len, double *bank_f, size_t bank_f_len,
+uint16_t wolfcloak_bank_update_linear(uint16_t role, uint16_t *bank, size_t bank_len, double *bank_f, size_t bank_f_len,
                                       const float *power, size_t power_len, bool hold_reference);
 
 /* One hop as for wolfcloak_gate_update, with the same dB. Refuses as that does. */
-uint16_t wolfcloak_gate_update_linear(const uint16_t *bank, size_t bank_len, const double *bank_f, size_t bank_f_len,
+uint16_t wolfcloak_gate_update_linear(uint16_t role, const uint16_t *bank, size_t bank_len, const double *bank_f, size_t bank_f_len,
                                       uint16_t *gate, size_t gate_len, double *gate_f, size_t gate_f_len,
                                       const float *power, size_t power_len,
                                       uint8_t *rise, size_t rise_len, uint8_t *drop, size_t drop_len);
 
 /* One hop as for wolfcloak_gate_update_map, with the same dB. Refuses as that does. */
-uint16_t wolfcloak_gate_update_linear_map(const uint16_t *bank, size_t bank_len, const double *bank_f, size_t bank_f_len,
+uint16_t wolfcloak_gate_update_linear_map(uint16_t role, const uint16_t *bank, size_t bank_len, const double *bank_f, size_t bank_f_len,
                                           uint16_t *gate, size_t gate_len, double *gate_f, size_t gate_f_len,
                                           uint8_t *map, size_t map_len, const float *power, size_t power_len,
                                           uint8_t *rise, size_t rise_len, uint8_t *drop, size_t drop_len);
 
 /* One hop as for wolfcloak_bank_update_worst, with the same dB. Refuses as that does, but never with 6. */
-uint16_t wolfcloak_bank_update_linear_worst(uint16_t *bank, size_t bank_len, double *bank_f, size_t bank_f_len,
+uint16_t wolfcloak_bank_update_linear_worst(uint16_t role, uint16_t *bank, size_t bank_len, double *bank_f, size_t bank_f_len,
                                             uint16_t *worst, size_t worst_len, double *worst_f, size_t worst_f_len,
                                             const float *power, size_t power_len, bool hold_reference);
 
@@ -325,11 +354,11 @@ uint16_t wolfcloak_bank_update_linear_worst(uint16_t *bank, size_t bank_len, dou
  * *len becomes its length; bytes of log after it stay as they are. No hops make a log of two bytes.
  * Refuses with 1 for n, with 5 unless both slices are equally long and a multiple of n, with 2 where log is too short.
  */
-uint16_t wolfcloak_log_write(size_t n, const uint64_t *db_bits, size_t db_bits_len, const uint32_t *power_bits, size_t power_bits_len,
-                             uint8_t *log, size_t log_len, size_t *len);
+uint16_t wolfcloak_log_write(uint16_t role, size_t n, const uint64_t *db_bits, size_t db_bits_len,
+                             const uint32_t *power_bits, size_t power_bits_len, uint8_t *log, size_t log_len, size_t *len);
 
 /* The number of channels of a log, written to *n. Refuses with 10 for a log of less than two bytes, then with 1. */
-uint16_t wolfcloak_log_channels(const uint8_t *log, size_t log_len, size_t *n);
+uint16_t wolfcloak_log_channels(uint16_t role, const uint8_t *log, size_t log_len, size_t *n);
 
 /*
  * One hop on: the two slices, n patterns each, hold a hop and become the next one, and *position, where that one begins, becomes
@@ -339,7 +368,7 @@ uint16_t wolfcloak_log_channels(const uint8_t *log, size_t log_len, size_t *n);
  * log; then for the hop at *position alone with 10 for a cut map, 11 for a set bit past n, 10 for cut pairs, 11 for a pair that is the
  * one that the slices hold.
  */
-uint16_t wolfcloak_log_read(const uint8_t *log, size_t log_len, size_t *position,
+uint16_t wolfcloak_log_read(uint16_t role, const uint8_t *log, size_t log_len, size_t *position,
                             uint64_t *db_bits, size_t db_bits_len, uint32_t *power_bits, size_t power_bits_len);
 
 /*
@@ -350,7 +379,7 @@ uint16_t wolfcloak_log_read(const uint8_t *log, size_t log_len, size_t *position
  * Refuses as the reader would that reads first to its end, hop by hop; then likewise for second; then with 13 for another n or another
  * number of hops, then with 2 where log is too short.
  */
-uint16_t wolfcloak_log_combine(const uint8_t *first, size_t first_len, const uint8_t *second, size_t second_len,
+uint16_t wolfcloak_log_combine(uint16_t role, const uint8_t *first, size_t first_len, const uint8_t *second, size_t second_len,
                                uint8_t *log, size_t log_len, size_t *len);
 
 /* ---- several band segments, 1 to 8, each with a bank and a gate of its own, on one processor ---- */
@@ -368,7 +397,7 @@ uint16_t wolfcloak_log_combine(const uint8_t *first, size_t first_len, const uin
  *
  * Refuses with 14, also where none is waiting: count outside 1..8, a set bit numbered count or more, or *last not below count.
  */
-uint16_t wolfcloak_dispatch(size_t count, uint8_t waiting, size_t *last);
+uint16_t wolfcloak_dispatch(uint16_t role, size_t count, uint8_t waiting, size_t *last);
 
 #ifdef __cplusplus
 }

@@ -13,6 +13,9 @@
 
 #include "wolfcloak.h"
 
+/* Who reads and writes logs acts as technician. */
+enum { ROLE = WOLFCLOAK_TECHNICIAN };
+
 static void stop(const char *name, const char *why)
 {
     fprintf(stderr, "hoplog: %s: %s\n", name, why);
@@ -89,7 +92,7 @@ static void write_log(const char *recording, const char *log_name)
     }
     size_t most = 2 + hops * ((n + 7) / 8) + 12 * count;
     uint8_t *log = room(most);
-    uint16_t no = wolfcloak_log_write(n, db, count, power, count, log, most, &len);
+    uint16_t no = wolfcloak_log_write(ROLE, n, db, count, power, count, log, most, &len);
     if (no)
         stop(recording, "the writer refused it");
     save(log_name, log, len);
@@ -102,13 +105,13 @@ static void read_log(const char *log_name, const char *recording)
     uint8_t *log = load(log_name, &size), *bytes = room(most);
     uint64_t db[512] = {0};
     uint32_t power[512] = {0};
-    uint16_t no = wolfcloak_log_channels(log, size, &n);
+    uint16_t no = wolfcloak_log_channels(ROLE, log, size, &n);
     if (no) {
         fprintf(stderr, "hoplog: %s: its header is refused with %u\n", log_name, no);
         exit(1);
     }
     put_number(bytes, 2, n);
-    while ((no = wolfcloak_log_read(log, size, &position, db, n, power, n)) == WOLFCLOAK_OK) {
+    while ((no = wolfcloak_log_read(ROLE, log, size, &position, db, n, power, n)) == WOLFCLOAK_OK) {
         if (len + 1 + 12 * n > most && !(bytes = realloc(bytes, most *= 2)))
             stop("memory", "there is not enough of it");
         bytes[len++] = 0;
@@ -134,7 +137,7 @@ static void combine_logs(const char *first_name, const char *second_name, const 
     /* A hop of both takes no more pairs than the two take together. */
     size_t most = first_len + second_len;
     uint8_t *log = room(most);
-    uint16_t no = wolfcloak_log_combine(first, first_len, second, second_len, log, most, &len);
+    uint16_t no = wolfcloak_log_combine(ROLE, first, first_len, second, second_len, log, most, &len);
     if (no) {
         fprintf(stderr, "hoplog: %s and %s: refused with %u\n", first_name, second_name, no);
         exit(1);

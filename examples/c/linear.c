@@ -5,6 +5,9 @@
 
 #include "wolfcloak.h"
 
+/* A receiver acts as technician. */
+enum { ROLE = WOLFCLOAK_TECHNICIAN };
+
 enum { CHANNELS = 4, HOPS = 1500, TONE = 2, BANK_LEN = 3 + 1 + 573 * CHANNELS, BANK_F_LEN = 4 * CHANNELS + 2, GATE_F_LEN = 35 * CHANNELS };
 
 /* One hop: 1e-15 more or less everywhere, and the tone at 1e-13 from hop 600 to hop 1,100. */
@@ -33,14 +36,14 @@ int main(void)
     static double bank_f[BANK_F_LEN], gate_f[GATE_F_LEN];
     int alive[CHANNELS] = {0};
 
-    take("bank_new", wolfcloak_bank_new(bank, BANK_LEN, bank_f, BANK_F_LEN, CHANNELS));
-    take("gate_new", wolfcloak_gate_new(gate, WOLFCLOAK_GATE_LEN, gate_f, GATE_F_LEN, CHANNELS, 72, 48, WOLFCLOAK_NO_EARLY, lengths, 1));
+    take("bank_new", wolfcloak_bank_new(ROLE, bank, BANK_LEN, bank_f, BANK_F_LEN, CHANNELS));
+    take("gate_new", wolfcloak_gate_new(ROLE, gate, WOLFCLOAK_GATE_LEN, gate_f, GATE_F_LEN, CHANNELS, 72, 48, WOLFCLOAK_NO_EARLY, lengths, 1));
     for (int hop = 0; hop < HOPS; hop++) {
         float power[CHANNELS];
         uint8_t rise[CHANNELS], drop[CHANNELS];
         hear(hop, power);
-        take("bank_update_linear", wolfcloak_bank_update_linear(bank, BANK_LEN, bank_f, BANK_F_LEN, power, CHANNELS, false));
-        take("gate_update_linear", wolfcloak_gate_update_linear(bank, BANK_LEN, bank_f, BANK_F_LEN, gate, WOLFCLOAK_GATE_LEN, gate_f, GATE_F_LEN,
+        take("bank_update_linear", wolfcloak_bank_update_linear(ROLE, bank, BANK_LEN, bank_f, BANK_F_LEN, power, CHANNELS, false));
+        take("gate_update_linear", wolfcloak_gate_update_linear(ROLE, bank, BANK_LEN, bank_f, BANK_F_LEN, gate, WOLFCLOAK_GATE_LEN, gate_f, GATE_F_LEN,
                                                                 power, CHANNELS, rise, CHANNELS, drop, CHANNELS));
         for (int k = 0; k < CHANNELS; k++) {
             int now = alive[k] ? !(drop[k] && !rise[k]) : rise[k];

@@ -8,6 +8,9 @@
 
 #include "wolfcloak.h"
 
+/* The receiver acts as technician; a leader may write registers too, and a keeper only read them. */
+enum { ROLE = WOLFCLOAK_TECHNICIAN };
+
 enum { N = 12, W = (N + 7) / 8, HOPS = 1500 };
 
 /* The set: it listens to three tones, of which that on channel 10 is of no interest to the board. */
@@ -38,9 +41,9 @@ static void make(void)
     gate_f = malloc(gate_f_len * sizeof *gate_f);
     if (!bank || !bank_f || !gate_f || wolfcloak_map_len(N) != sizeof map)
         exit(1);
-    must("bank_new", wolfcloak_bank_new(bank, bank_len, bank_f, bank_f_len, N));
-    must("gate_new", wolfcloak_gate_new(gate, WOLFCLOAK_GATE_LEN, gate_f, gate_f_len, N, 48, -800, WOLFCLOAK_NO_EARLY, lengths, 1));
-    must("map_new", wolfcloak_map_new(gate, WOLFCLOAK_GATE_LEN, gate_f, gate_f_len, map, sizeof map));
+    must("bank_new", wolfcloak_bank_new(ROLE, bank, bank_len, bank_f, bank_f_len, N));
+    must("gate_new", wolfcloak_gate_new(ROLE, gate, WOLFCLOAK_GATE_LEN, gate_f, gate_f_len, N, 48, -800, WOLFCLOAK_NO_EARLY, lengths, 1));
+    must("map_new", wolfcloak_map_new(ROLE, gate, WOLFCLOAK_GATE_LEN, gate_f, gate_f_len, map, sizeof map));
 }
 
 /* One hop: the bank's update, and the gate's with the map. */
@@ -58,8 +61,8 @@ static void hear(void)
             power_db[tones[i].channel] = -80;
             power[tones[i].channel] = 1e-8f;
         }
-    must("bank_update", wolfcloak_bank_update(bank, bank_len, bank_f, bank_f_len, power_db, N, power, N));
-    must("gate_update_map", wolfcloak_gate_update_map(bank, bank_len, bank_f, bank_f_len, gate, WOLFCLOAK_GATE_LEN, gate_f, gate_f_len,
+    must("bank_update", wolfcloak_bank_update(ROLE, bank, bank_len, bank_f, bank_f_len, power_db, N, power, N));
+    must("gate_update_map", wolfcloak_gate_update_map(ROLE, bank, bank_len, bank_f, bank_f_len, gate, WOLFCLOAK_GATE_LEN, gate_f, gate_f_len,
                                                       map, sizeof map, power_db, N, power, N, rise, N, drop, N));
     for (size_t k = 0; k < N; k++)
         rose[k] |= rise[k];
@@ -71,19 +74,19 @@ static void hear(void)
 static uint8_t reg(size_t address)
 {
     uint8_t value = 0;
-    must("map_read", wolfcloak_map_read(gate, WOLFCLOAK_GATE_LEN, gate_f, gate_f_len, map, sizeof map, address, &value));
+    must("map_read", wolfcloak_map_read(ROLE, gate, WOLFCLOAK_GATE_LEN, gate_f, gate_f_len, map, sizeof map, address, &value));
     return value;
 }
 
 static void set_reg(size_t address, uint8_t value)
 {
-    must("map_write", wolfcloak_map_write(gate, WOLFCLOAK_GATE_LEN, gate_f, gate_f_len, map, sizeof map, address, value));
+    must("map_write", wolfcloak_map_write(ROLE, gate, WOLFCLOAK_GATE_LEN, gate_f, gate_f_len, map, sizeof map, address, value));
 }
 
 static uint8_t wire(void)
 {
     uint8_t up = 0;
-    must("map_wire", wolfcloak_map_wire(gate, WOLFCLOAK_GATE_LEN, gate_f, gate_f_len, map, sizeof map, &up));
+    must("map_wire", wolfcloak_map_wire(ROLE, gate, WOLFCLOAK_GATE_LEN, gate_f, gate_f_len, map, sizeof map, &up));
     return up;
 }
 

@@ -9,6 +9,9 @@
 
 #include "wolfcloak.h"
 
+/* A receiver acts as technician. */
+enum { ROLE = WOLFCLOAK_TECHNICIAN };
+
 enum { SEGMENTS = 3, MOST = 40, TICKS = 6000 };
 
 struct segment {
@@ -53,10 +56,10 @@ static void make(struct segment *s)
     s->gate_f = malloc(s->gate_f_len * sizeof *s->gate_f);
     if (!s->bank || !s->bank_f || !s->gate_f)
         exit(1);
-    uint16_t r = wolfcloak_bank_new(s->bank, s->bank_len, s->bank_f, s->bank_f_len, s->n);
+    uint16_t r = wolfcloak_bank_new(ROLE, s->bank, s->bank_len, s->bank_f, s->bank_f_len, s->n);
     if (r)
         stop("bank_new", r);
-    r = wolfcloak_gate_new(s->gate, WOLFCLOAK_GATE_LEN, s->gate_f, s->gate_f_len, s->n, s->on, s->off, WOLFCLOAK_NO_EARLY,
+    r = wolfcloak_gate_new(ROLE, s->gate, WOLFCLOAK_GATE_LEN, s->gate_f, s->gate_f_len, s->n, s->on, s->off, WOLFCLOAK_NO_EARLY,
                            s->lengths, 2);
     if (r)
         stop("gate_new", r);
@@ -97,9 +100,9 @@ static void serve(int i)
     uint8_t rise[MOST], drop[MOST];
     s->waiting = 0;
     s->served++;
-    uint16_t r = wolfcloak_bank_update(s->bank, s->bank_len, s->bank_f, s->bank_f_len, s->power_db, s->n, s->power, s->n);
+    uint16_t r = wolfcloak_bank_update(ROLE, s->bank, s->bank_len, s->bank_f, s->bank_f_len, s->power_db, s->n, s->power, s->n);
     if (!r)
-        r = wolfcloak_gate_update(s->bank, s->bank_len, s->bank_f, s->bank_f_len, s->gate, WOLFCLOAK_GATE_LEN,
+        r = wolfcloak_gate_update(ROLE, s->bank, s->bank_len, s->bank_f, s->bank_f_len, s->gate, WOLFCLOAK_GATE_LEN,
                                   s->gate_f, s->gate_f_len, s->power_db, s->n, s->power, s->n, rise, s->n, drop, s->n);
     if (r) {
         printf("segment %d  hop %4ld  refused with %u\n", i, s->hop, r);
@@ -128,7 +131,7 @@ int main(void)
                 arrive(&segments[i]);
             waiting |= (uint8_t)(segments[i].waiting << i);
         }
-        uint16_t r = wolfcloak_dispatch(SEGMENTS, waiting, &last);
+        uint16_t r = wolfcloak_dispatch(ROLE, SEGMENTS, waiting, &last);
         if (r == WOLFCLOAK_OK)
             serve((int)last);
         else if (r == WOLFCLOAK_NONE_WAITING)

@@ -1,9 +1,15 @@
-/* A complete small receiver loop over libwolfcloak.a: noise on eight channels, and a tone that comes and goes on one of them. */
+/*
+ * A complete small receiver loop over libwolfcloak.a: noise on eight channels, and a tone that comes and goes on one of them. At the end a
+ * keeper reads a floor, and has no right to feed a hop.
+ */
 #include <stdint.h>
 #include <stdio.h>
 #include <stdlib.h>
 
 #include "wolfcloak.h"
+
+/* A receiver acts as technician. */
+enum { ROLE = WOLFCLOAK_TECHNICIAN };
 
 enum { CHANNELS = 8, HOPS = 1500, TONE = 3 };
 
@@ -46,10 +52,10 @@ int main(void)
         return 1;
 
     /* on 6 dB, off 3 dB over the floor, in eighths; no early rise */
-    uint16_t r = wolfcloak_bank_new(bank, bank_len, bank_f, bank_f_len, CHANNELS);
+    uint16_t r = wolfcloak_bank_new(ROLE, bank, bank_len, bank_f, bank_f_len, CHANNELS);
     if (r)
         stop("bank_new", r);
-    r = wolfcloak_gate_new(gate, WOLFCLOAK_GATE_LEN, gate_f, gate_f_len, CHANNELS, 48, 24, WOLFCLOAK_NO_EARLY, lengths, 2);
+    r = wolfcloak_gate_new(ROLE, gate, WOLFCLOAK_GATE_LEN, gate_f, gate_f_len, CHANNELS, 48, 24, WOLFCLOAK_NO_EARLY, lengths, 2);
     if (r)
         stop("gate_new", r);
 
@@ -59,10 +65,10 @@ int main(void)
         float power[CHANNELS];
         uint8_t rise[CHANNELS], drop[CHANNELS];
         hear(hop, power_db, power);
-        r = wolfcloak_bank_update(bank, bank_len, bank_f, bank_f_len, power_db, CHANNELS, power, CHANNELS);
+        r = wolfcloak_bank_update(ROLE, bank, bank_len, bank_f, bank_f_len, power_db, CHANNELS, power, CHANNELS);
         if (r)
             stop("bank_update", r);
-        r = wolfcloak_gate_update(bank, bank_len, bank_f, bank_f_len, gate, WOLFCLOAK_GATE_LEN, gate_f, gate_f_len,
+        r = wolfcloak_gate_update(ROLE, bank, bank_len, bank_f, bank_f_len, gate, WOLFCLOAK_GATE_LEN, gate_f, gate_f_len,
                                   power_db, CHANNELS, power, CHANNELS, rise, CHANNELS, drop, CHANNELS);
         if (r)
             stop("gate_update", r);
@@ -73,12 +79,20 @@ int main(void)
             if (now == alive[k])
                 continue;
             alive[k] = now;
-            r = wolfcloak_explain(bank, bank_len, bank_f, bank_f_len, (size_t)k, &rule, &floor_db, &rise_rule, &rise_floor_db);
+            r = wolfcloak_explain(ROLE, bank, bank_len, bank_f, bank_f_len, (size_t)k,
+                                  &rule, &floor_db, &rise_rule, &rise_floor_db);
             if (r)
                 stop("explain", r);
             printf("%7.3f s  channel %d  %s  floor %.2f dB, %s\n", hop / 375.0, k, now ? "rise" : "drop", floor_db, rules[rule]);
         }
     }
+    double floor_db, power_db[CHANNELS] = {0};
+    float power[CHANNELS] = {0};
+    r = wolfcloak_effective_floor_db(WOLFCLOAK_KEEPER, bank, bank_len, bank_f, bank_f_len, TONE, &floor_db);
+    if (r)
+        stop("effective_floor_db", r);
+    r = wolfcloak_bank_update(WOLFCLOAK_KEEPER, bank, bank_len, bank_f, bank_f_len, power_db, CHANNELS, power, CHANNELS);
+    printf("a keeper reads the floor, %.2f dB; a keeper's hop is refused with %u\n", floor_db, r);
     free(bank);
     free(bank_f);
     free(gate_f);

@@ -1,9 +1,10 @@
 //! A complete small receiver loop over the safe wrapper: noise on eight channels, a tone that comes and goes on one of them, and a
-//! static crash during which the gate holds.
+//! static crash during which the gate holds. The receiver acts as technician; at the end a keeper tries to feed a hop.
 mod wolfcloak;
 
-use wolfcloak::{Bank, Gate, Refusal};
+use wolfcloak::{Bank, Gate, Refusal, Role};
 
+const ME: Role = Role::Technician;
 const CHANNELS: usize = 8;
 const TONE: usize = 3;
 
@@ -30,25 +31,25 @@ fn hear(hop: usize, crash: bool, noise: &mut Noise) -> ([f64; CHANNELS], [f32; C
 }
 
 fn run() -> Result<(), Refusal> {
-    let mut bank = Bank::new(CHANNELS)?;
+    let mut bank = Bank::new(ME, CHANNELS)?;
     // on 6 dB and off 3 dB over the floor, no early rise
-    let mut gate = Gate::new(CHANNELS, 48, 24, None, &[15, 75])?;
+    let mut gate = Gate::new(ME, CHANNELS, 48, 24, None, &[15, 75])?;
     let (mut noise, mut alive) = (Noise(1), [false; CHANNELS]);
     for hop in 0..1500 {
         let crash = (300..310).contains(&hop);
         let (db, power) = hear(hop, crash, &mut noise);
         let (mut rise, mut drop) = ([0; CHANNELS], [0; CHANNELS]);
-        bank.update(&db, &power, crash)?;
+        bank.update(ME, &db, &power, crash)?;
         if crash {
-            gate.hold(&bank, &mut rise, &mut drop)?;
+            gate.hold(ME, &bank, &mut rise, &mut drop)?;
         } else {
-            gate.update(&bank, &db, &power, &mut rise, &mut drop)?;
+            gate.update(ME, &bank, &db, &power, &mut rise, &mut drop)?;
         }
         for k in 0..CHANNELS {
             let now = if alive[k] { drop[k] == 0 || rise[k] == 1 } else { rise[k] == 1 };
             if now != alive[k] {
                 alive[k] = now;
-                let (word, floors, db) = (if now { "rise" } else { "drop" }, bank.floors(k)?, gate.smoothed_db(k)?);
+                let (word, floors, db) = (if now { "rise" } else { "drop" }, bank.floors(ME, k)?, gate.smoothed_db(ME, k)?);
                 println!(
                     "{:7.3} s  channel {k}  {word}  {db:.2} dB over floor {:.2} dB (rise floor {:.2}, raw {:.2})",
                     hop as f64 / 375.0,
@@ -59,7 +60,8 @@ fn run() -> Result<(), Refusal> {
             }
         }
     }
-    println!("a channel that is not there: {:?}", bank.floors(CHANNELS));
+    println!("a channel that is not there: {:?}", bank.floors(ME, CHANNELS));
+    println!("a keeper's hop: {:?}", bank.update(Role::Keeper, &[0.0; CHANNELS], &[0.0; CHANNELS], false));
     Ok(())
 }
 

@@ -1,5 +1,14 @@
 //! A safe wrapper of libwolfcloak.a: slices in, values or refusals out, and no panic.
 
+/// Who makes a call. Each may do what those before may: a keeper reads, a leader also remakes a gate, a technician does everything.
+#[derive(Clone, Copy, Debug, PartialEq, Eq)]
+#[allow(dead_code)]
+pub enum Role {
+    Keeper = 0,
+    Leader = 1,
+    Technician = 2,
+}
+
 /// Why a call changed nothing: document 01's refusals by name.
 #[derive(Clone, Copy, Debug, PartialEq, Eq)]
 pub enum Refusal {
@@ -12,6 +21,7 @@ pub enum Refusal {
     Channel,
     Mismatch,
     Unsound,
+    Right,
     /// A number that this wrapper does not know.
     Other(u16),
 }
@@ -28,6 +38,7 @@ fn answer<T>(number: u16, value: T) -> Result<T, Refusal> {
         7 => Refusal::Channel,
         8 => Refusal::Mismatch,
         9 => Refusal::Unsound,
+        16 => Refusal::Right,
         other => Refusal::Other(other),
     })
 }
@@ -47,17 +58,18 @@ pub struct Bank {
 }
 
 impl Bank {
-    pub fn new(n: usize) -> Result<Bank, Refusal> {
+    pub fn new(role: Role, n: usize) -> Result<Bank, Refusal> {
         let (u, f) = unsafe { (wolfcloak_bank_len(n), wolfcloak_bank_f_len(n)) };
         let (mut words, mut floats) = (vec![0; u], vec![0.0; f]);
-        let number = unsafe { wolfcloak_bank_new(words.as_mut_ptr(), u, floats.as_mut_ptr(), f, n) };
+        let number = unsafe { wolfcloak_bank_new(role as u16, words.as_mut_ptr(), u, floats.as_mut_ptr(), f, n) };
         answer(number, Bank { words, floats })
     }
 
     /// One hop; with `hold_reference` the smoothed powers stay as they are.
-    pub fn update(&mut self, power_db: &[f64], power: &[f32], hold_reference: bool) -> Result<(), Refusal> {
+    pub fn update(&mut self, role: Role, power_db: &[f64], power: &[f32], hold_reference: bool) -> Result<(), Refusal> {
         let number = unsafe {
             wolfcloak_bank_update_holding_reference(
+                role as u16,
                 self.words.as_mut_ptr(),
                 self.words.len(),
                 self.floats.as_mut_ptr(),
@@ -72,10 +84,11 @@ impl Bank {
         answer(number, ())
     }
 
-    pub fn floors(&self, k: usize) -> Result<Floors, Refusal> {
+    pub fn floors(&self, role: Role, k: usize) -> Result<Floors, Refusal> {
         let mut out = Floors::default();
         let number = unsafe {
             wolfcloak_floors(
+                role as u16,
                 self.words.as_ptr(),
                 self.words.len(),
                 self.floats.as_ptr(),
@@ -98,11 +111,12 @@ pub struct Gate {
 
 impl Gate {
     /// Levels in eighths of a dB; no early rise where `early` is `None`.
-    pub fn new(n: usize, on: i32, off: i32, early: Option<i32>, lengths: &[u16]) -> Result<Gate, Refusal> {
+    pub fn new(role: Role, n: usize, on: i32, off: i32, early: Option<i32>, lengths: &[u16]) -> Result<Gate, Refusal> {
         let f = unsafe { wolfcloak_gate_f_len(n, lengths.as_ptr(), lengths.len()) };
         let mut gate = Gate { words: [0; 30], floats: vec![0.0; f] };
         let number = unsafe {
             wolfcloak_gate_new(
+                role as u16,
                 gate.words.as_mut_ptr(),
                 gate.words.len(),
                 gate.floats.as_mut_ptr(),
@@ -121,6 +135,7 @@ impl Gate {
     /// One hop, after the bank's update with it; the marks go to `rise` and `drop`.
     pub fn update(
         &mut self,
+        role: Role,
         bank: &Bank,
         power_db: &[f64],
         power: &[f32],
@@ -129,6 +144,7 @@ impl Gate {
     ) -> Result<(), Refusal> {
         let number = unsafe {
             wolfcloak_gate_update(
+                role as u16,
                 bank.words.as_ptr(),
                 bank.words.len(),
                 bank.floats.as_ptr(),
@@ -151,9 +167,10 @@ impl Gate {
     }
 
     /// The marks as the gate stands, for a hop of static; the thresholds that it remembers follow the bank's floors.
-    pub fn hold(&mut self, bank: &Bank, rise: &mut [u8], drop: &mut [u8]) -> Result<(), Refusal> {
+    pub fn hold(&mut self, role: Role, bank: &Bank, rise: &mut [u8], drop: &mut [u8]) -> Result<(), Refusal> {
         let number = unsafe {
             wolfcloak_gate_hold(
+                role as u16,
                 bank.words.as_ptr(),
                 bank.words.len(),
                 bank.floats.as_ptr(),
@@ -171,10 +188,11 @@ impl Gate {
         answer(number, ())
     }
 
-    pub fn smoothed_db(&self, k: usize) -> Result<f64, Refusal> {
+    pub fn smoothed_db(&self, role: Role, k: usize) -> Result<f64, Refusal> {
         let mut value = 0.0;
         let number = unsafe {
             wolfcloak_smoothed_db(
+                role as u16,
                 self.words.as_ptr(),
                 self.words.len(),
                 self.floats.as_ptr(),
@@ -191,8 +209,9 @@ impl Gate {
 extern "C" {
     fn wolfcloak_bank_len(n: usize) -> usize;
     fn wolfcloak_bank_f_len(n: usize) -> usize;
-    fn wolfcloak_bank_new(bank: *mut u16, bank_len: usize, bank_f: *mut f64, bank_f_len: usize, n: usize) -> u16;
+    fn wolfcloak_bank_new(role: u16, bank: *mut u16, bank_len: usize, bank_f: *mut f64, bank_f_len: usize, n: usize) -> u16;
     fn wolfcloak_bank_update_holding_reference(
+        role: u16,
         bank: *mut u16,
         bank_len: usize,
         bank_f: *mut f64,
@@ -204,6 +223,7 @@ extern "C" {
         hold_reference: bool,
     ) -> u16;
     fn wolfcloak_floors(
+        role: u16,
         bank: *const u16,
         bank_len: usize,
         bank_f: *const f64,
@@ -215,6 +235,7 @@ extern "C" {
     ) -> u16;
     fn wolfcloak_gate_f_len(n: usize, lengths: *const u16, lengths_len: usize) -> usize;
     fn wolfcloak_gate_new(
+        role: u16,
         gate: *mut u16,
         gate_len: usize,
         gate_f: *mut f64,
@@ -227,6 +248,7 @@ extern "C" {
         lengths_len: usize,
     ) -> u16;
     fn wolfcloak_gate_update(
+        role: u16,
         bank: *const u16,
         bank_len: usize,
         bank_f: *const f64,
@@ -245,6 +267,7 @@ extern "C" {
         drop_len: usize,
     ) -> u16;
     fn wolfcloak_gate_hold(
+        role: u16,
         bank: *const u16,
         bank_len: usize,
         bank_f: *const f64,
@@ -259,6 +282,7 @@ extern "C" {
         drop_len: usize,
     ) -> u16;
     fn wolfcloak_smoothed_db(
+        role: u16,
         gate: *const u16,
         gate_len: usize,
         gate_f: *const f64,

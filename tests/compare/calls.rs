@@ -1,12 +1,12 @@
 // One set of arguments, lent to every function, and what is compared of each.
 use crate::decibels::plain_dbs;
 use crate::explain::explain;
-use crate::floor::{FloorBank, Gate};
+use crate::floor::{FloorBank, Gate, ABSENT};
 use crate::layout::place;
 use crate::linear_rows;
 use crate::rules::{
-    refusal, Rule, GATE_FLOATS, GATE_HOLD, GATE_MAKING, GATE_READ, GATE_SOUND, GATE_STORE, GATE_UPDATE, GATE_UPDATE_LINEAR, MAKING,
-    PAIR, READ, SOUND, STORE, UPDATE, UPDATE_LINEAR,
+    refusal, Rule, GATE_FLOATS, GATE_HOLD, GATE_MAKING, GATE_READ, GATE_REMAKING, GATE_SOUND, GATE_STORE, GATE_UPDATE, GATE_UPDATE_LINEAR,
+    MAKING, PAIR, READ, SOUND, STORE, UPDATE, UPDATE_LINEAR,
 };
 use crate::tally::Tally;
 use crate::wolfcloak as lib;
@@ -155,6 +155,7 @@ pub fn every_call(t: &mut Tally, what: Arguments, l: &Lent) {
     update_linear(t, format_args!("{what}: bank_update_linear {:?}", l.hold), l, then(bank, &UPDATE_LINEAR));
     readings(t, what, &c, then(bank, &READ));
     let gate = refusal(&c, &[&GATE_STORE, &GATE_SOUND, &GATE_FLOATS]);
+    remaking(t, format_args!("{what}: gate_remake"), l, then(gate, &GATE_REMAKING));
     let both = then(if bank != 0 { bank } else { gate }, &PAIR);
     gate_update(t, format_args!("{what}: gate_update"), l, then(both, &GATE_UPDATE));
     gate_update_linear(t, format_args!("{what}: gate_update_linear"), l, then(both, &GATE_UPDATE_LINEAR));
@@ -174,6 +175,35 @@ pub fn gate_making(t: &mut Tally, what: Arguments, l: &Lent) {
     let due = refusal(&l.call(), &[&GATE_MAKING]);
     t.answer(what, lib::gate_new(&mut g[..l.gate_len], &mut f[..l.gate_f_len], l.n, l.levels, &l.lengths), due);
     l.compare_gate(t, what, &g, &f, (due == 0).then(|| Gate::made(l.n, l.levels, &l.lengths).to_stores()));
+}
+
+/// R-14 in plain Rust: n and the lengths stay where they stand, the levels are the new ones, the rise floors last used are NaN, and all else is 0.
+pub fn remade(gate: &[u16], gate_f: &[f64], levels: [i32; 3]) -> Stores {
+    let (mut g, mut f) = (gate.to_vec(), vec![0.0; gate_f.len()]);
+    g[1] = 0;
+    for (word, level) in g[2..5].iter_mut().zip(levels) {
+        *word = if level == ABSENT { 65535 } else { (level + 800) as u16 };
+    }
+    g[6..].chunks_mut(3).for_each(|of_a_length| of_a_length[1..].fill(0));
+    let n = g[0] as usize;
+    let used = f.len() - 2 * n;
+    f[used..used + n].fill(f64::NAN);
+    (g, f)
+}
+
+/// Beside the plain writing, and that beside floor.rs's gate, made with these lengths.
+fn remaking(t: &mut Tally, what: Arguments, l: &Lent, due: u16) {
+    let (mut g, mut f) = (l.gate.clone(), l.gate_f.clone());
+    t.answer(what, lib::gate_remake(&mut g[..l.gate_len], &mut f[..l.gate_f_len], l.levels), due);
+    let c = l.call();
+    let plain = (due == 0).then(|| remade(c.gate, c.gate_f, l.levels));
+    if let Some((words, floats)) = &plain {
+        let lengths: Vec<u16> = c.gate[6..].chunks(3).take(c.gate[5] as usize).map(|of_a_length| of_a_length[0]).collect();
+        let (made, made_f) = Gate::made(c.gate[0] as usize, l.levels, &lengths).to_stores();
+        t.words(format_args!("{what}: plain beside floor.rs"), words, &made);
+        t.floats(format_args!("{what}: plain beside floor.rs"), floats, &made_f);
+    }
+    l.compare_gate(t, what, &g, &f, plain);
 }
 
 fn update(t: &mut Tally, what: Arguments, l: &Lent, due: u16) {

@@ -38,9 +38,9 @@ fn fit(l: &mut Lent) {
     l.gate_f.resize(l.gate_f_len + 4, 7.5);
 }
 
-type Fault = (&'static str, fn(&mut Lent, &mut Rng));
+pub type Fault = (&'static str, fn(&mut Lent, &mut Rng));
 
-const FAULTS: [Fault; 96] = [
+pub const FAULTS: [Fault; 96] = [
     ("no u16 store", |l, _| l.u_len = 0),
     ("u16 store of 1", |l, _| l.u_len = 1),
     ("u16 store of 2", |l, _| l.u_len = 2),
@@ -322,7 +322,7 @@ pub fn any_sound_store(t: &mut Tally, n: usize, rng: &mut Rng) {
     let gate = any_gate(&bank, levels, &lengths, rng);
     let db: Vec<f64> = (0..n).map(|_| any_f64(rng)).map(|x| if x.is_nan() && n > 1 { -0.0 } else { x }).collect();
     let power: Vec<f32> = (0..n).map(|_| any_f32(rng)).collect();
-    let mut l = Lent::new(&bank, &gate, &db, &power, levels, &lengths);
+    let mut l = Lent::new(&bank, &gate, &db, &power, any_levels(rng), &lengths);
     l.k = rng.below(n);
     l.hold = rng.pick(&[None, Some(false), Some(true)]);
     every_call(t, format_args!("n {n}, sound stores"), &l);

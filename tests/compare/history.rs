@@ -1,10 +1,11 @@
-// Demand 3, run on the library: two sets with different histories hear the same further list.
+// Demand 3, run on the library: two sets with different histories hear the same further list. Calls have their roles: one that is stopped
+// counts for nothing.
 use crate::floor::{FloorBank, Gate, ABSENT};
 use crate::layout::{DECIMATION_HOPS, HIST_MIN_DB, SETTLING};
-use crate::numbers::{any_f64, sample, same, Feed, Rng};
+use crate::numbers::{any_f64, any_levels, sample, same, Feed, Rng};
 use crate::rules::garbled;
 use crate::tally::Tally;
-use crate::wolfcloak as lib;
+use crate::wolfcloak::{self as lib, act_as, KEEPER, LEADER, TECHNICIAN};
 use std::fmt::Arguments;
 
 #[derive(Clone, Copy, PartialEq)]
@@ -22,13 +23,15 @@ struct Step {
     hold: Option<bool>,
     carries: bool, // a bank update carries the store of the worst floor
     marks: usize, // how long rise and drop are
+    role: u16, // who makes it
 }
 
 impl Step {
     fn any(rng: &mut Rng, n: usize, kind: Kind, feed: Feed, hop: usize) -> Step {
         let (db, power) = (0..n).map(|k| sample(rng, feed, hop, k)).unzip();
         let (hold, carries) = (rng.pick(&[None, Some(false), Some(true)]), rng.one_in(2));
-        let mut s = Step { kind, db, power, hold, carries, marks: n };
+        let role = if rng.one_in(30) { rng.pick(&[KEEPER, LEADER, 3, 65535]) } else { TECHNICIAN }; // none of the others may
+        let mut s = Step { kind, db, power, hold, carries, marks: n, role };
         match rng.below(60) {
             0 => drop(s.db.pop()),
             1 => s.power.push(1.0),
@@ -75,6 +78,7 @@ impl Set {
     fn call(&mut self, s: &Step) -> u16 {
         let (mut rise, mut drop) = (vec![9; s.marks], vec![9; s.marks]);
         let (bank, marks) = ((&self.u[..], &self.f[..]), (&mut rise[..], &mut drop[..]));
+        act_as(s.role);
         let answer = match s.kind {
             Kind::Bank if s.carries => {
                 let store = (&mut self.worst[..], &mut self.worst_f[..]);
@@ -84,6 +88,7 @@ impl Set {
             Kind::Gate => lib::gate_update(bank, (&mut self.gate, &mut self.gate_f), (&s.db, &s.power), marks),
             Kind::Hold => lib::gate_hold(bank, (&self.gate, &mut self.gate_f), marks),
         };
+        act_as(TECHNICIAN);
         if answer == 0 {
             self.banks += (s.kind == Kind::Bank) as usize;
             self.gates += (s.kind == Kind::Gate) as usize;
@@ -92,6 +97,23 @@ impl Set {
             }
         }
         answer
+    }
+
+    /// a leader makes the gate anew with these levels, and its updates are counted from there.
+    fn remake(&mut self, levels: [i32; 3]) {
+        act_as(LEADER);
+        assert_eq!(lib::gate_remake(&mut self.gate, &mut self.gate_f, levels), 0);
+        act_as(TECHNICIAN);
+        self.gates = 0;
+    }
+
+    /// A season in which that happens, some way into it: the gate was made with other levels.
+    fn hear_remade(&mut self, rng: &mut Rng, feeds: &[Feed], banks: usize, gates: usize, levels: [i32; 3]) {
+        self.remake(any_levels(rng));
+        let before = [rng.below(banks + 1), rng.below(1000)];
+        self.hear(rng, feeds, before[0], before[1]);
+        self.remake(levels);
+        self.hear(rng, feeds, banks, gates);
     }
 
     /// A history of so many accepted updates, refused calls and holds among them: leading silence, then anything.
@@ -177,9 +199,9 @@ impl Pair {
 /// n, window lengths, early; then for two histories how many accepted bank updates and gate updates they have.
 type Setting = (usize, &'static [u16], i32, [usize; 2], [usize; 2]);
 
-pub const SETTINGS: [Setting; 8] = [
+const SETTINGS: [Setting; 8] = [
     (1, &[375], ABSENT, [0, 0], [4500, 750]),
-    (1, &[1, 375, 2, 3, 125], ABSENT, [3, 5], [1503, 2255]),
+    (1, &[1, 375, 2, 3, 125], ABSENT, [3, 5], [1503, 3005]),
     (2, &[1, 3, 5, 15, 25, 75, 125, 375], ABSENT, [7, 11], [3907, 1511]),
     (2, &[375, 75], ABSENT, [1509, 749], [4509, 1499]),
     (33, &[15, 75, 375], ABSENT, [14, 700], [1214, 1450]),
@@ -190,16 +212,26 @@ pub const SETTINGS: [Setting; 8] = [
 
 const ANY: [Feed; 5] = [Feed::Silence, Feed::Any, Feed::Numbers, Feed::Noise, Feed::Edges];
 
-/// Two histories, and a further list of any calls; its first accepted slow hop is loud.
-pub fn any_histories(t: &mut Tally, setting: &Setting, rng: &mut Rng) {
-    let &(n, lengths, early, a, b) = setting;
+/// Of each setting, one pair of histories of demand 3's calls alone, and one in which the other's leader remade the gate in mid-season.
+pub const PAIRS: usize = 2 * SETTINGS.len();
+
+/// Pair i: two histories, and a further list of any calls; its first accepted slow hop is loud.
+pub fn any_histories(t: &mut Tally, i: usize, rng: &mut Rng) {
+    let (n, lengths, early, a, b) = SETTINGS[i % SETTINGS.len()];
+    let is_remade = i >= SETTINGS.len();
+    let meets = (b[0] - a[0]) % DECIMATION_HOPS == 0 && lengths.iter().all(|&m| (b[1] - a[1]) % (2 * m as usize) == 0);
+    t.check(meets, format_args!("history, n {n}, {lengths:?}: {a:?} and {b:?} are not equal modulo 15 and twice every length"));
     let levels = [rng.pick(&[0, 16, 40]), 16, early];
     let mut one = Set::new(n, levels, lengths).keeping(1 + rng.below(600));
     let mut other = one.clone().keeping(1 + rng.below(600));
     one.hear(rng, &[Feed::Noise, Feed::Any, Feed::Noise], a[0], a[1]);
-    other.hear(rng, &ANY, b[0], b[1]);
+    if is_remade {
+        other.hear_remade(rng, &ANY, b[0], b[1], levels);
+    } else {
+        other.hear(rng, &ANY, b[0], b[1]);
+    }
     let mut pair = Pair::new(one, other);
-    let what = format_args!("history, n {n}, {levels:?}, {lengths:?}, {a:?} and {b:?}");
+    let what = format_args!("history, n {n}, {levels:?}, {lengths:?}, {a:?} and {b:?}, remade {is_remade}");
     let (mut feed, mut is_loud, mut compared) = (Feed::Noise, false, 0);
     for hop in 0.. {
         if is_loud && hop % 50 == 0 {
@@ -229,7 +261,7 @@ pub fn any_histories(t: &mut Tally, setting: &Setting, rng: &mut Rng) {
 /// Two channels, one length of 375 and a further list that has no call too many: floors differ until its last bank update, and
 /// rises until its 1,499th gate update, when the windows are summed afresh.
 pub fn no_call_too_many(t: &mut Tally) {
-    let step = |kind, db: f64, power: f32| Step { kind, db: vec![db; 2], power: vec![power; 2], hold: None, carries: false, marks: 2 };
+    let step = |kind, db: f64, power: f32| Step { kind, db: vec![db; 2], power: vec![power; 2], hold: None, carries: false, marks: 2, role: TECHNICIAN };
     let mut one = Set::new(2, [0, 0, ABSENT], &[375]);
     let mut other = one.clone();
     let what = format_args!("history, no call too many");

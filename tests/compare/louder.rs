@@ -4,7 +4,7 @@ use crate::floor::FloorBank;
 use crate::layout::{DECIMATION_HOPS, SETTLING};
 use crate::numbers::{any_f32, any_f64, edge, sample, Feed, Rng};
 use crate::tally::Tally;
-use crate::wolfcloak as lib;
+use crate::wolfcloak::{self as lib, act_as, LEADER, TECHNICIAN};
 use std::fmt::Arguments;
 
 /// A fresh bank and what it hears.
@@ -22,12 +22,15 @@ impl Bank {
         Bank { n, u, f }
     }
 
-    /// An update with any powers, held or not; now and then one that is refused comes before it.
+    /// An update with any powers, held or not; now and then two that are refused come before it.
     fn hear(&mut self, t: &mut Tally, what: Arguments, db: &[f64], rng: &mut Rng) {
         let power: Vec<f32> = (0..self.n).map(|_| any_f32(rng)).collect();
         let hold = rng.pick(&[None, Some(false), Some(true)]);
         if rng.one_in(40) {
             t.answer(what, lib::bank_update(&mut self.u, &mut self.f, &db[1..], &power, hold), 5);
+            act_as(LEADER); // who may not
+            t.answer(what, lib::bank_update(&mut self.u, &mut self.f, db, &power, hold), 16);
+            act_as(TECHNICIAN);
         }
         t.answer(what, lib::bank_update(&mut self.u, &mut self.f, db, &power, hold), 0);
     }

@@ -15,6 +15,7 @@ mod floor;
 mod history;
 mod layout;
 mod linear_rows;
+mod listed;
 mod log_rows;
 mod logs;
 mod louder;
@@ -24,6 +25,7 @@ mod pairs;
 mod plain_antennas;
 mod plain_log;
 mod registers;
+mod roles;
 mod rules;
 mod rungs;
 mod runs;
@@ -33,7 +35,6 @@ mod tally;
 mod wolfcloak;
 mod worst;
 
-use history::SETTINGS;
 use numbers::Rng;
 use rules::Alone;
 use runs::{LENGTHS, PLANS};
@@ -42,14 +43,13 @@ use tally::Tally;
 
 const SIZES: [usize; 13] = [1, 2, 3, 4, 5, 6, 31, 32, 33, 64, 65, 511, 512];
 
-/// Job i: the making of banks and gates, the ladder, the hop logs, two antennas, the dispatcher and the registers, two histories, two lists of
-/// which one is louder, the worst floor of late over some span, arbitrary stores of some size, a run of some size and plan, or the dB of a part of
-/// all powers.
+/// Job i: the making of banks and gates, the ladder, the hop logs, two antennas, the roles, the dispatcher and the registers, two histories, two
+/// lists of which one is louder, the worst floor of late over some span, arbitrary stores of some size, a run of some size and plan, or the dB of a
+/// part of all powers.
 fn job(i: usize, seed: u64, alone: &mut Alone) -> Option<Tally> {
     let mut t = Tally::default();
     let mut rng = Rng(seed ^ (i as u64) << 32);
-    let histories = SETTINGS.len();
-    let lists = histories + louder::PAIRS;
+    let lists = history::PAIRS + louder::PAIRS;
     let spans = lists + worst::SPANS.len();
     if i == 0 {
         faults::any_n(&mut t, &mut rng);
@@ -61,6 +61,8 @@ fn job(i: usize, seed: u64, alone: &mut Alone) -> Option<Tally> {
         decibels::each_rung(&mut t);
         logs::any_logs(&mut t, &mut rng);
         antennas::any_antennas(&mut t, &mut rng);
+        roles::each_role(&mut t, &mut rng);
+        listed::whole(&mut t);
         segments::all_ticks(&mut t);
         segments::fair_runs(&mut t, &mut rng);
         louder::no_more(&mut t);
@@ -71,10 +73,10 @@ fn job(i: usize, seed: u64, alone: &mut Alone) -> Option<Tally> {
         }
         worst::refusals(&mut t);
         worst::any_rings(&mut t, &mut rng);
-    } else if i <= histories {
-        history::any_histories(&mut t, &SETTINGS[i - 1], &mut rng);
+    } else if i <= history::PAIRS {
+        history::any_histories(&mut t, i - 1, &mut rng);
     } else if i <= lists {
-        louder::any_pair(&mut t, i - histories - 1, &mut rng);
+        louder::any_pair(&mut t, i - history::PAIRS - 1, &mut rng);
     } else if i <= spans {
         worst::runs(&mut t, worst::SPANS[i - lists - 1], &mut rng);
     } else if i <= spans + SIZES.len() {
@@ -133,7 +135,7 @@ fn main() {
     t.check(floors > 0 && rises > 0 || jobs < usize::MAX, format_args!("histories made no difference before the end of the further list"));
     t.check(t.untrue > 0 || jobs < usize::MAX, format_args!("untrue pairs never made a difference"));
     t.first.iter().for_each(|d| println!("difference: {d}"));
-    println!("{} pairs of histories: floors parted for a while in {floors}, rises in {rises}", SETTINGS.len());
+    println!("{} pairs of histories: floors parted for a while in {floors}, rises in {rises}", history::PAIRS);
     println!("{} marks were given by untrue pairs", t.untrue);
     println!(
         "seed {seed}: {} channel-hops, {} rises, {} drops, {} comparisons, {} differences",

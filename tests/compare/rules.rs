@@ -85,6 +85,14 @@ fn is_level(x: i32) -> bool {
     (-800..=800).contains(&x)
 }
 
+fn a_level(c: &Call) -> bool {
+    let [on, off, early] = c.levels;
+    !is_level(on) || !is_level(off) || (early != ABSENT && !is_level(early))
+}
+
+/// Of a remake, after the gate's store.
+pub const GATE_REMAKING: [Rule; 1] = [rule("level", 4, a_level)];
+
 /// How many floats a gate of n channels and these lengths takes, doubles dropped, with the two groups of R-3.
 pub fn gate_floats(n: usize, lengths: impl Iterator<Item = u16>) -> usize {
     let distinct: std::collections::BTreeSet<u16> = lengths.collect();
@@ -95,10 +103,7 @@ pub const GATE_MAKING: [Rule; 6] = [
     rule("band", 1, |c| !(1..=512).contains(&c.n)),
     rule("number of lengths", 3, |c| !(1..=8).contains(&c.lengths.len())),
     rule("a length", 3, |c| c.lengths.iter().any(|m| !(1..=375).contains(m))),
-    rule("level", 4, |c| {
-        let [on, off, early] = c.levels;
-        !is_level(on) || !is_level(off) || (early != ABSENT && !is_level(early))
-    }),
+    rule("level", 4, a_level),
     rule("gate's u16 length", 2, |c| c.gate.len() != 30),
     rule("gate's f64 length", 2, |c| c.gate_f.len() != gate_floats(c.n, c.lengths.iter().copied())),
 ];

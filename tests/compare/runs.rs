@@ -9,7 +9,7 @@ use crate::numbers::{any_f64, any_levels, sample, Feed, Rng};
 use crate::pairs;
 use crate::rules::{garbled, Alone};
 use crate::tally::Tally;
-use crate::wolfcloak as lib;
+use crate::wolfcloak::{self as lib, act_as, LEADER, TECHNICIAN};
 use std::fmt::Arguments;
 
 /// What a run hears first, and for how many hops; what it hears from then on, by turns; and whether floats are put into its stores.
@@ -141,6 +141,15 @@ impl Both {
         self.compare_gate(t, what, false);
     }
 
+    /// other levels, and all else fresh; a leader may.
+    fn gate_remake(&mut self, t: &mut Tally, what: Arguments, levels: [i32; 3], lengths: &[u16]) {
+        act_as(LEADER);
+        t.answer(what, lib::gate_remake(&mut self.gate, &mut self.gate_f, levels), 0);
+        act_as(TECHNICIAN);
+        self.old_gate = Gate::made(self.rise.len(), levels, lengths);
+        self.compare_gate(t, what, true);
+    }
+
     pub fn readings(&self, t: &mut Tally, what: Arguments, k: usize) {
         let c = Call { u: &self.u, f: &self.f, gate: &self.gate, gate_f: &self.gate_f, k, ..Call::default() };
         readings_of(t, what, &c, 0, Some(&self.old_bank));
@@ -199,6 +208,9 @@ pub fn run(t: &mut Tally, n: usize, plan: &Plan, lengths: &[u16], rng: &mut Rng,
             if !plan.injected {
                 as_stored(t, what, &both.u, &both.f, k);
             }
+        }
+        if rng.one_in(3000) {
+            both.gate_remake(t, what, any_levels(rng), lengths);
         }
         if plan.injected && rng.one_in(40) {
             both.inject(rng);

@@ -4,7 +4,7 @@ use crate::decibels::plain_dbs;
 use crate::linear_rows;
 use crate::numbers::{any_f64, sample, same, Feed, Rng};
 use crate::tally::Tally;
-use crate::wolfcloak as lib;
+use crate::wolfcloak::{self as lib, act_as, KEEPER, TECHNICIAN};
 
 pub const SPANS: [usize; 5] = [1, 2, 3, 599, 600];
 const SIZES: [usize; 3] = [1, 2, 33];
@@ -99,12 +99,14 @@ pub fn runs(t: &mut Tally, span: usize, rng: &mut Rng) {
             let (carries, hold, slow) = (!rng.one_in(4), rng.one_in(3), s.u[1] == 0);
             let before = s.clone();
             let mut alone = before.clone();
+            act_as(if rng.one_in(20) { KEEPER } else { TECHNICIAN }); // a keeper's hop is refused
             let answer = s.hear(carries, &db, &power, hold);
             let what = format_args!("worst of late, n {n}, W {span}, hop {at}").to_string();
             if rng.one_in(5) {
                 linear(t, &what, &before, &power, hold);
             }
             t.answer(format_args!("{what}"), answer, alone.hear(false, &db, &power, hold));
+            act_as(TECHNICIAN);
             t.check(s.u == alone.u && bits(&s.f) == bits(&alone.f), format_args!("{what}: the bank noticed what it carries"));
             if answer == 0 && carries && slow {
                 let floor = |k: usize| {

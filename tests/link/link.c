@@ -5,6 +5,9 @@
 #include <stdlib.h>
 #include <string.h>
 
+/* The receiver acts as technician. */
+static const uint16_t me = WOLFCLOAK_TECHNICIAN;
+
 static int wrong;
 
 static void expect(const char *what, double got, double want)
@@ -27,13 +30,14 @@ static void bench_d(void)
 
     expect("bank_len(1)", wolfcloak_bank_len(1), ONE);
     expect("bank_f_len(1)", wolfcloak_bank_f_len(1), 6);
-    expect("bank_new", wolfcloak_bank_new(bank, ONE, bank_f, 6, 1), WOLFCLOAK_OK);
-    expect("channel_floor_db", wolfcloak_channel_floor_db(bank, ONE, bank_f, 6, 0, &value), WOLFCLOAK_OK);
+    expect("bank_new", wolfcloak_bank_new(me, bank, ONE, bank_f, 6, 1), WOLFCLOAK_OK);
+    expect("channel_floor_db", wolfcloak_channel_floor_db(me, bank, ONE, bank_f, 6, 0, &value), WOLFCLOAK_OK);
     expect("d, before a push", value, -160);
-    expect("bank_update", wolfcloak_bank_update(bank, ONE, bank_f, 6, &db, 1, &power, 1), WOLFCLOAK_OK);
-    expect("channel_floor_db", wolfcloak_channel_floor_db(bank, ONE, bank_f, 6, 0, &value), WOLFCLOAK_OK);
+    expect("bank_update", wolfcloak_bank_update(me, bank, ONE, bank_f, 6, &db, 1, &power, 1), WOLFCLOAK_OK);
+    expect("channel_floor_db", wolfcloak_channel_floor_db(me, bank, ONE, bank_f, 6, 0, &value), WOLFCLOAK_OK);
     expect("d, after a push of -200", value, -159.75);
-    expect("a store from before", wolfcloak_channel_floor_db(bank, OLD_ONE, bank_f, 6, 0, &value), WOLFCLOAK_REFUSED_STORE_SIZE);
+    expect("a store from before", wolfcloak_channel_floor_db(me, bank, OLD_ONE, bank_f, 6, 0, &value),
+           WOLFCLOAK_REFUSED_STORE_SIZE);
 }
 
 /* Two channels, one hop of -100 and -60. */
@@ -47,39 +51,42 @@ static void bench_h(void)
 
     if (!bank || !bank_f)
         exit(1);
-    expect("bank_new", wolfcloak_bank_new(bank, len, bank_f, f_len, 2), WOLFCLOAK_OK);
+    expect("bank_new", wolfcloak_bank_new(me, bank, len, bank_f, f_len, 2), WOLFCLOAK_OK);
     expect("bank_update_holding_reference",
-           wolfcloak_bank_update_holding_reference(bank, len, bank_f, f_len, db, 2, power, 2, true), WOLFCLOAK_OK);
+           wolfcloak_bank_update_holding_reference(me, bank, len, bank_f, f_len, db, 2, power, 2, true), WOLFCLOAK_OK);
     expect("h, block floor", bank_f[8], -79.75);
-    expect("effective_floor_db", wolfcloak_effective_floor_db(bank, len, bank_f, f_len, 0, &value), WOLFCLOAK_OK);
+    expect("effective_floor_db", wolfcloak_effective_floor_db(me, bank, len, bank_f, f_len, 0, &value), WOLFCLOAK_OK);
     expect("h, effective floor of the first", value, -80 - 3.8);
-    expect("effective_floor_db", wolfcloak_effective_floor_db(bank, len, bank_f, f_len, 1, &value), WOLFCLOAK_OK);
+    expect("effective_floor_db", wolfcloak_effective_floor_db(me, bank, len, bank_f, f_len, 1, &value), WOLFCLOAK_OK);
     expect("h, effective floor of the second", value, -76.75);
-    expect("rise_floor_db", wolfcloak_rise_floor_db(bank, len, bank_f, f_len, 0, &value), WOLFCLOAK_OK);
+    expect("rise_floor_db", wolfcloak_rise_floor_db(me, bank, len, bank_f, f_len, 0, &value), WOLFCLOAK_OK);
     expect("h, rise floor of the first", value, -79.75);
-    expect("floors", wolfcloak_floors(bank, len, bank_f, f_len, 0, &effective, &rise, &raw), WOLFCLOAK_OK);
+    expect("floors", wolfcloak_floors(me, bank, len, bank_f, f_len, 0, &effective, &rise, &raw), WOLFCLOAK_OK);
     expect("effective of floors", effective, -80 - 3.8);
     expect("rise of floors", rise, -79.75);
     expect("raw of floors", raw, -99.75);
-    expect("explain", wolfcloak_explain(bank, len, bank_f, f_len, 0, &effective_origin, &effective, &rise_origin, &rise), WOLFCLOAK_OK);
+    expect("explain", wolfcloak_explain(me, bank, len, bank_f, f_len, 0, &effective_origin, &effective, &rise_origin, &rise),
+           WOLFCLOAK_OK);
     expect("origin of the first's effective floor", effective_origin, WOLFCLOAK_EFFECTIVE_SEED);
     expect("effective floor explained", effective, -80 - 3.8);
     expect("origin of the first's rise floor", rise_origin, WOLFCLOAK_RISE_BLOCK);
     expect("rise floor explained", rise, -79.75);
-    expect("explain", wolfcloak_explain(bank, len, bank_f, f_len, 1, &effective_origin, &effective, &rise_origin, &rise), WOLFCLOAK_OK);
+    expect("explain", wolfcloak_explain(me, bank, len, bank_f, f_len, 1, &effective_origin, &effective, &rise_origin, &rise),
+           WOLFCLOAK_OK);
     expect("origin of the second's effective floor", effective_origin, WOLFCLOAK_EFFECTIVE_BLOCK_PLUS_3);
     expect("origin of the second's rise floor", rise_origin, WOLFCLOAK_RISE_EFFECTIVE_FLOOR);
     expect("rise floor explained", rise, -76.75);
-    expect("a channel too many", wolfcloak_explain(bank, len, bank_f, f_len, 2, &effective_origin, &effective, &rise_origin, &rise),
+    expect("a channel too many",
+           wolfcloak_explain(me, bank, len, bank_f, f_len, 2, &effective_origin, &effective, &rise_origin, &rise),
            WOLFCLOAK_REFUSED_CHANNEL);
     expect("origin after a refusal", rise_origin, WOLFCLOAK_RISE_EFFECTIVE_FLOOR);
-    expect("spectral_reference", wolfcloak_spectral_reference(bank, len, bank_f, f_len, 1, &value), WOLFCLOAK_OK);
+    expect("spectral_reference", wolfcloak_spectral_reference(me, bank, len, bank_f, f_len, 1, &value), WOLFCLOAK_OK);
     expect("spectral reference of the second", value, (double)power[0] + 1e-20);
-    expect("ring", wolfcloak_ring(bank, len, bank_f, f_len, 1, &start, &count), WOLFCLOAK_OK);
+    expect("ring", wolfcloak_ring(me, bank, len, bank_f, f_len, 1, &start, &count), WOLFCLOAK_OK);
     expect("ring's start", start, 3 + 1 + CHANNEL_LEN);
     expect("ring's length", count, 250);
     expect("bin of -60", bank[start], 200);
-    expect("a channel too many", wolfcloak_ring(bank, len, bank_f, f_len, 2, &start, &count), WOLFCLOAK_REFUSED_CHANNEL);
+    expect("a channel too many", wolfcloak_ring(me, bank, len, bank_f, f_len, 2, &start, &count), WOLFCLOAK_REFUSED_CHANNEL);
     free(bank);
     free(bank_f);
 }
@@ -95,8 +102,8 @@ static void hear_noise(void)
     static const double db[2] = {-100, -100};
     static const float power[2] = {1e-10f, 1e-10f};
 
-    expect("bank_new", wolfcloak_bank_new(bank, TWO, bank_f, 10, 2), WOLFCLOAK_OK);
-    expect("bank_update", wolfcloak_bank_update(bank, TWO, bank_f, 10, db, 2, power, 2), WOLFCLOAK_OK);
+    expect("bank_new", wolfcloak_bank_new(me, bank, TWO, bank_f, 10, 2), WOLFCLOAK_OK);
+    expect("bank_update", wolfcloak_bank_update(me, bank, TWO, bank_f, 10, db, 2, power, 2), WOLFCLOAK_OK);
 }
 
 static void expect_marks(const char *what, const uint8_t *marks, int first, int second)
@@ -114,25 +121,25 @@ static void window_rise(void)
     uint8_t rise[2] = {9, 9}, drop[2] = {9, 9};
 
     expect("gate_f_len", wolfcloak_gate_f_len(2, lengths, 2), 18);
-    expect("gate_new", wolfcloak_gate_new(gate, 30, gate_f, 18, 2, 48, 16, WOLFCLOAK_NO_EARLY, lengths, 2), WOLFCLOAK_OK);
-    expect("gate_hold", wolfcloak_gate_hold(bank, TWO, bank_f, 10, gate, 30, gate_f, 18, rise, 2, drop, 2), WOLFCLOAK_OK);
+    expect("gate_new", wolfcloak_gate_new(me, gate, 30, gate_f, 18, 2, 48, 16, WOLFCLOAK_NO_EARLY, lengths, 2), WOLFCLOAK_OK);
+    expect("gate_hold", wolfcloak_gate_hold(me, bank, TWO, bank_f, 10, gate, 30, gate_f, 18, rise, 2, drop, 2), WOLFCLOAK_OK);
     expect_marks("rise before the first hop", rise, 0, 0);
     expect_marks("drop before the first hop", drop, 0, 0);
     for (int hop = 1; hop <= 4; hop++) {
-        expect("gate_update", wolfcloak_gate_update(bank, TWO, bank_f, 10, gate, 30, gate_f, 18, tone_db, 2, tone, 2,
+        expect("gate_update", wolfcloak_gate_update(me, bank, TWO, bank_f, 10, gate, 30, gate_f, 18, tone_db, 2, tone, 2,
                                                     rise, 2, drop, 2), WOLFCLOAK_OK);
         expect_marks("window rise", rise, 0, hop == 4);
         expect_marks("drop", drop, 1, 0);
     }
     rise[1] = 9;
-    expect("gate_hold", wolfcloak_gate_hold(bank, TWO, bank_f, 10, gate, 30, gate_f, 18, rise, 2, drop, 2), WOLFCLOAK_OK);
+    expect("gate_hold", wolfcloak_gate_hold(me, bank, TWO, bank_f, 10, gate, 30, gate_f, 18, rise, 2, drop, 2), WOLFCLOAK_OK);
     expect_marks("rise of a hold", rise, 0, 1);
-    expect("smoothed_db", wolfcloak_smoothed_db(gate, 30, gate_f, 18, 1, &value), WOLFCLOAK_OK);
+    expect("smoothed_db", wolfcloak_smoothed_db(me, gate, 30, gate_f, 18, 1, &value), WOLFCLOAK_OK);
     expect("smoothed dB of the tone", value, -60);
-    expect("ema_rise", wolfcloak_ema_rise(bank, TWO, bank_f, 10, gate, 30, gate_f, 18, 1, &value), WOLFCLOAK_OK);
+    expect("ema_rise", wolfcloak_ema_rise(me, bank, TWO, bank_f, 10, gate, 30, gate_f, 18, 1, &value), WOLFCLOAK_OK);
     expect("early rise that is absent", value, 0);
-    expect("a channel too many", wolfcloak_smoothed_db(gate, 30, gate_f, 18, 2, &value), WOLFCLOAK_REFUSED_CHANNEL);
-    expect("a rise too short", wolfcloak_gate_hold(bank, TWO, bank_f, 10, gate, 30, gate_f, 18, rise, 1, drop, 2),
+    expect("a channel too many", wolfcloak_smoothed_db(me, gate, 30, gate_f, 18, 2, &value), WOLFCLOAK_REFUSED_CHANNEL);
+    expect("a rise too short", wolfcloak_gate_hold(me, bank, TWO, bank_f, 10, gate, 30, gate_f, 18, rise, 1, drop, 2),
            WOLFCLOAK_REFUSED_HOP_SIZE);
 }
 
@@ -144,19 +151,19 @@ static void early_rise(void)
     double gate_f[14], other_f[7], value = 7; /* 2 + (4 + 2 + 2) + 2 + 2, 1 + (2 + 1 + 1) + 1 + 1 */
     uint8_t rise[2], drop[2];
 
-    expect("gate_new", wolfcloak_gate_new(gate, 30, gate_f, 14, 2, 800, -800, 80, lengths, 1), WOLFCLOAK_OK);
-    expect("ema_rise", wolfcloak_ema_rise(bank, TWO, bank_f, 10, gate, 30, gate_f, 14, 1, &value), WOLFCLOAK_OK);
+    expect("gate_new", wolfcloak_gate_new(me, gate, 30, gate_f, 14, 2, 800, -800, 80, lengths, 1), WOLFCLOAK_OK);
+    expect("ema_rise", wolfcloak_ema_rise(me, bank, TWO, bank_f, 10, gate, 30, gate_f, 14, 1, &value), WOLFCLOAK_OK);
     expect("early rise before the first hop", value, 0);
-    expect("gate_update", wolfcloak_gate_update(bank, TWO, bank_f, 10, gate, 30, gate_f, 14, tone_db, 2, tone, 2,
+    expect("gate_update", wolfcloak_gate_update(me, bank, TWO, bank_f, 10, gate, 30, gate_f, 14, tone_db, 2, tone, 2,
                                                 rise, 2, drop, 2), WOLFCLOAK_OK);
     expect_marks("early rise", rise, 0, 1);
     expect_marks("drop far below", drop, 0, 0);
-    expect("ema_rise", wolfcloak_ema_rise(bank, TWO, bank_f, 10, gate, 30, gate_f, 14, 1, &value), WOLFCLOAK_OK);
+    expect("ema_rise", wolfcloak_ema_rise(me, bank, TWO, bank_f, 10, gate, 30, gate_f, 14, 1, &value), WOLFCLOAK_OK);
     expect("early rise alone", value, 1);
-    expect("no lengths", wolfcloak_gate_new(gate, 30, gate_f, 14, 2, 801, 0, 0, none, 0), WOLFCLOAK_REFUSED_LENGTHS);
-    expect("a level too high", wolfcloak_gate_new(gate, 30, gate_f, 14, 2, 801, 0, 0, lengths, 1), WOLFCLOAK_REFUSED_LEVEL);
-    expect("gate_new", wolfcloak_gate_new(gate, 30, other_f, 7, 1, 0, 0, 0, lengths, 1), WOLFCLOAK_OK);
-    expect("a gate of another n", wolfcloak_gate_hold(bank, TWO, bank_f, 10, gate, 30, other_f, 7, rise, 2, drop, 2),
+    expect("no lengths", wolfcloak_gate_new(me, gate, 30, gate_f, 14, 2, 801, 0, 0, none, 0), WOLFCLOAK_REFUSED_LENGTHS);
+    expect("a level too high", wolfcloak_gate_new(me, gate, 30, gate_f, 14, 2, 801, 0, 0, lengths, 1), WOLFCLOAK_REFUSED_LEVEL);
+    expect("gate_new", wolfcloak_gate_new(me, gate, 30, other_f, 7, 1, 0, 0, 0, lengths, 1), WOLFCLOAK_OK);
+    expect("a gate of another n", wolfcloak_gate_hold(me, bank, TWO, bank_f, 10, gate, 30, other_f, 7, rise, 2, drop, 2),
            WOLFCLOAK_REFUSED_MISMATCH);
 }
 
@@ -165,19 +172,19 @@ static void ticks(void)
 {
     size_t last = 2;
 
-    expect("dispatch", wolfcloak_dispatch(3, 7, &last), WOLFCLOAK_OK);
+    expect("dispatch", wolfcloak_dispatch(me, 3, 7, &last), WOLFCLOAK_OK);
     expect("the first tick's segment", last, 0);
-    expect("dispatch", wolfcloak_dispatch(3, 5, &last), WOLFCLOAK_OK);
+    expect("dispatch", wolfcloak_dispatch(me, 3, 5, &last), WOLFCLOAK_OK);
     expect("the next that is waiting", last, 2);
-    expect("dispatch", wolfcloak_dispatch(3, 6, &last), WOLFCLOAK_OK);
+    expect("dispatch", wolfcloak_dispatch(me, 3, 6, &last), WOLFCLOAK_OK);
     expect("the first one going round", last, 1);
-    expect("dispatch", wolfcloak_dispatch(3, 2, &last), WOLFCLOAK_OK);
+    expect("dispatch", wolfcloak_dispatch(me, 3, 2, &last), WOLFCLOAK_OK);
     expect("the last served, alone", last, 1);
-    expect("no hop", wolfcloak_dispatch(3, 0, &last), WOLFCLOAK_NONE_WAITING);
-    expect("a bit past count", wolfcloak_dispatch(3, 8, &last), WOLFCLOAK_REFUSED_SEGMENTS);
-    expect("a last served not below count", wolfcloak_dispatch(1, 1, &last), WOLFCLOAK_REFUSED_SEGMENTS);
-    expect("no segments", wolfcloak_dispatch(0, 0, &last), WOLFCLOAK_REFUSED_SEGMENTS);
-    expect("nine segments, no hop", wolfcloak_dispatch(9, 0, &last), WOLFCLOAK_REFUSED_SEGMENTS);
+    expect("no hop", wolfcloak_dispatch(me, 3, 0, &last), WOLFCLOAK_NONE_WAITING);
+    expect("a bit past count", wolfcloak_dispatch(me, 3, 8, &last), WOLFCLOAK_REFUSED_SEGMENTS);
+    expect("a last served not below count", wolfcloak_dispatch(me, 1, 1, &last), WOLFCLOAK_REFUSED_SEGMENTS);
+    expect("no segments", wolfcloak_dispatch(me, 0, 0, &last), WOLFCLOAK_REFUSED_SEGMENTS);
+    expect("nine segments, no hop", wolfcloak_dispatch(me, 9, 0, &last), WOLFCLOAK_REFUSED_SEGMENTS);
     expect("the last served as it was", last, 1);
 }
 
@@ -193,23 +200,24 @@ static void hop_log(void)
     size_t len = 0, n = 0, position = 2;
 
     log[16] = 9;
-    expect("a log that is too long", wolfcloak_log_write(2, db, 4, power, 4, log, 15, &len), WOLFCLOAK_REFUSED_STORE_SIZE);
-    expect("log_write", wolfcloak_log_write(2, db, 4, power, 4, log, 17, &len), WOLFCLOAK_OK);
+    expect("a log that is too long", wolfcloak_log_write(me, 2, db, 4, power, 4, log, 15, &len), WOLFCLOAK_REFUSED_STORE_SIZE);
+    expect("log_write", wolfcloak_log_write(me, 2, db, 4, power, 4, log, 17, &len), WOLFCLOAK_OK);
     expect("the log's length", len, 16);
     expect("the log's bytes", memcmp(log, due, 16), 0);
     expect("the byte after it", log[16], 9);
-    expect("log_channels", wolfcloak_log_channels(log, len, &n), WOLFCLOAK_OK);
+    expect("log_channels", wolfcloak_log_channels(me, log, len, &n), WOLFCLOAK_OK);
     expect("the log's channels", n, 2);
     for (int hop = 0; hop < 2; hop++) {
-        expect("log_read", wolfcloak_log_read(log, len, &position, db_bits, 2, power_bits, 2), WOLFCLOAK_OK);
+        expect("log_read", wolfcloak_log_read(me, log, len, &position, db_bits, 2, power_bits, 2), WOLFCLOAK_OK);
         expect("the hop's dB bits", memcmp(db_bits, db + 2 * hop, sizeof db_bits), 0);
         expect("the hop's power bits", memcmp(power_bits, power + 2 * hop, sizeof power_bits), 0);
         expect("the position", position, hop == 0 ? 15 : 16);
     }
-    expect("log_read", wolfcloak_log_read(log, len, &position, db_bits, 2, power_bits, 2), WOLFCLOAK_END);
+    expect("log_read", wolfcloak_log_read(me, log, len, &position, db_bits, 2, power_bits, 2), WOLFCLOAK_END);
     position = 2;
-    expect("a pair that did not change", wolfcloak_log_read(log, len, &position, db_bits, 2, power_bits, 2), WOLFCLOAK_REFUSED_DAMAGED);
-    expect("a log that is cut", wolfcloak_log_read(log, 14, &position, db_bits, 2, power_bits, 2), WOLFCLOAK_REFUSED_CUT);
+    expect("a pair that did not change", wolfcloak_log_read(me, log, len, &position, db_bits, 2, power_bits, 2),
+           WOLFCLOAK_REFUSED_DAMAGED);
+    expect("a log that is cut", wolfcloak_log_read(me, log, 14, &position, db_bits, 2, power_bits, 2), WOLFCLOAK_REFUSED_CUT);
     expect("the position of a refusal", position, 2);
 }
 
@@ -225,22 +233,22 @@ static void worst_of_late(void)
         exit(1);
     expect("worst_f_len", wolfcloak_worst_f_len(1, 2), 2);
     expect("worst_f_len of a span too long", wolfcloak_worst_f_len(1, 601), 0);
-    expect("a span too long", wolfcloak_worst_new(worst, 4, worst_f, 2, 1, 601), WOLFCLOAK_REFUSED_SPAN);
-    expect("worst_new", wolfcloak_worst_new(worst, 4, worst_f, 2, 1, 2), WOLFCLOAK_OK);
-    expect("bank_new", wolfcloak_bank_new(one, len, one_f, f_len, 1), WOLFCLOAK_OK);
-    expect("none yet", wolfcloak_worst_floor(one, len, one_f, f_len, worst, 4, worst_f, 2, 0, &value), WOLFCLOAK_NONE_YET);
+    expect("a span too long", wolfcloak_worst_new(me, worst, 4, worst_f, 2, 1, 601), WOLFCLOAK_REFUSED_SPAN);
+    expect("worst_new", wolfcloak_worst_new(me, worst, 4, worst_f, 2, 1, 2), WOLFCLOAK_OK);
+    expect("bank_new", wolfcloak_bank_new(me, one, len, one_f, f_len, 1), WOLFCLOAK_OK);
+    expect("none yet", wolfcloak_worst_floor(me, one, len, one_f, f_len, worst, 4, worst_f, 2, 0, &value), WOLFCLOAK_NONE_YET);
     expect("a value that none yet leaves", value, 7);
     for (int hop = 0; hop < 16; hop++) {
         expect("bank_update_worst",
-               wolfcloak_bank_update_worst(one, len, one_f, f_len, worst, 4, worst_f, 2, &db, 1, &power, 1, false), WOLFCLOAK_OK);
-        expect("worst_floor", wolfcloak_worst_floor(one, len, one_f, f_len, worst, 4, worst_f, 2, 0, &value), WOLFCLOAK_OK);
+               wolfcloak_bank_update_worst(me, one, len, one_f, f_len, worst, 4, worst_f, 2, &db, 1, &power, 1, false), WOLFCLOAK_OK);
+        expect("worst_floor", wolfcloak_worst_floor(me, one, len, one_f, f_len, worst, 4, worst_f, 2, 0, &value), WOLFCLOAK_OK);
         expect("the worst floor of late", value, -59.75);
         db = -100;
     }
-    expect("effective_floor_db", wolfcloak_effective_floor_db(one, len, one_f, f_len, 0, &value), WOLFCLOAK_OK);
+    expect("effective_floor_db", wolfcloak_effective_floor_db(me, one, len, one_f, f_len, 0, &value), WOLFCLOAK_OK);
     expect("an effective floor that has fallen", value < -59.75, 1);
-    expect("a channel too many", wolfcloak_worst_floor(one, len, one_f, f_len, worst, 4, worst_f, 2, 1, &value), WOLFCLOAK_REFUSED_CHANNEL);
-    expect("a bank of another n", wolfcloak_worst_floor(bank, wolfcloak_bank_len(2), bank_f, wolfcloak_bank_f_len(2), worst, 4, worst_f, 2,
+    expect("a channel too many", wolfcloak_worst_floor(me, one, len, one_f, f_len, worst, 4, worst_f, 2, 1, &value), WOLFCLOAK_REFUSED_CHANNEL);
+    expect("a bank of another n", wolfcloak_worst_floor(me, bank, wolfcloak_bank_len(2), bank_f, wolfcloak_bank_f_len(2), worst, 4, worst_f, 2,
                                                         0, &value), WOLFCLOAK_REFUSED_MISMATCH);
     free(one);
     free(one_f);
@@ -256,17 +264,17 @@ static void two_antennas(void)
     size_t len = 77;
 
     log[15] = 9;
-    expect("a first log that is cut", wolfcloak_log_combine(first, 14, other_n, 1, log, 0, &len), WOLFCLOAK_REFUSED_CUT);
-    expect("a second log that is cut", wolfcloak_log_combine(first, 15, other_n, 1, log, 0, &len), WOLFCLOAK_REFUSED_CUT);
-    expect("unequal n", wolfcloak_log_combine(first, 15, other_n, 2, log, 0, &len), WOLFCLOAK_REFUSED_UNLIKE);
-    expect("unequal numbers of hops", wolfcloak_log_combine(first, 15, second, 2, log, 0, &len), WOLFCLOAK_REFUSED_UNLIKE);
-    expect("too short for both", wolfcloak_log_combine(first, 15, second, 15, log, 14, &len), WOLFCLOAK_REFUSED_STORE_SIZE);
+    expect("a first log that is cut", wolfcloak_log_combine(me, first, 14, other_n, 1, log, 0, &len), WOLFCLOAK_REFUSED_CUT);
+    expect("a second log that is cut", wolfcloak_log_combine(me, first, 15, other_n, 1, log, 0, &len), WOLFCLOAK_REFUSED_CUT);
+    expect("unequal n", wolfcloak_log_combine(me, first, 15, other_n, 2, log, 0, &len), WOLFCLOAK_REFUSED_UNLIKE);
+    expect("unequal numbers of hops", wolfcloak_log_combine(me, first, 15, second, 2, log, 0, &len), WOLFCLOAK_REFUSED_UNLIKE);
+    expect("too short for both", wolfcloak_log_combine(me, first, 15, second, 15, log, 14, &len), WOLFCLOAK_REFUSED_STORE_SIZE);
     expect("the length of a refusal", len, 77);
-    expect("log_combine", wolfcloak_log_combine(first, 15, second, 15, log, 16, &len), WOLFCLOAK_OK);
+    expect("log_combine", wolfcloak_log_combine(me, first, 15, second, 15, log, 16, &len), WOLFCLOAK_OK);
     expect("the length of both", len, 15);
     expect("the larger power's pair", memcmp(log, second, 15), 0);
     expect("the byte after both", log[15], 9);
-    expect("log_combine", wolfcloak_log_combine(second, 15, first, 15, log, 16, &len), WOLFCLOAK_OK);
+    expect("log_combine", wolfcloak_log_combine(me, second, 15, first, 15, log, 16, &len), WOLFCLOAK_OK);
     expect("the larger power's pair, first", memcmp(log, second, 15), 0);
 }
 
@@ -286,38 +294,43 @@ static void registers(void)
     expect("map_len", wolfcloak_map_len(9), 6);
     expect("map_len of none", wolfcloak_map_len(0), 0);
     expect("map_len of 513", wolfcloak_map_len(513), 0);
-    expect("bank_new", wolfcloak_bank_new(nine, u, nine_f, f, 9), WOLFCLOAK_OK);
-    expect("gate_new", wolfcloak_gate_new(gate, 30, gate_f, g, 9, 0, 800, 0, lengths, 1), WOLFCLOAK_OK);
-    expect("a map too long", wolfcloak_map_new(gate, 30, gate_f, g, map, 7), WOLFCLOAK_REFUSED_STORE_SIZE);
-    expect("map_new", wolfcloak_map_new(gate, 30, gate_f, g, map, 6), WOLFCLOAK_OK);
-    expect("bank_update", wolfcloak_bank_update(nine, u, nine_f, f, db, 9, power, 9), WOLFCLOAK_OK);
-    expect("gate_update_map", wolfcloak_gate_update_map(nine, u, nine_f, f, gate, 30, gate_f, g, map, 6, db, 9, power, 9,
+    expect("bank_new", wolfcloak_bank_new(me, nine, u, nine_f, f, 9), WOLFCLOAK_OK);
+    expect("gate_new", wolfcloak_gate_new(me, gate, 30, gate_f, g, 9, 0, 800, 0, lengths, 1), WOLFCLOAK_OK);
+    expect("a map too long", wolfcloak_map_new(me, gate, 30, gate_f, g, map, 7), WOLFCLOAK_REFUSED_STORE_SIZE);
+    expect("map_new", wolfcloak_map_new(me, gate, 30, gate_f, g, map, 6), WOLFCLOAK_OK);
+    expect("bank_update", wolfcloak_bank_update(me, nine, u, nine_f, f, db, 9, power, 9), WOLFCLOAK_OK);
+    expect("gate_update_map", wolfcloak_gate_update_map(me, nine, u, nine_f, f, gate, 30, gate_f, g, map, 6, db, 9, power, 9,
                                                         rise, 9, drop, 9), WOLFCLOAK_OK);
-    expect("gate_hold_map", wolfcloak_gate_hold_map(nine, u, nine_f, f, gate, 30, gate_f, g, map, 6, rise, 9, drop, 9), WOLFCLOAK_OK);
+    expect("gate_hold_map", wolfcloak_gate_hold_map(me, nine, u, nine_f, f, gate, 30, gate_f, g, map, 6, rise, 9, drop, 9), WOLFCLOAK_OK);
     for (size_t k = 0; k < 9; k++)
         expect("rise and drop flags", (map[k / 8] >> k % 8 & 1) + 2 * (map[2 + k / 8] >> k % 8 & 1), rise[k] + 2 * drop[k]);
     expect("some flag", map[0] + map[2] > 0, 1);
-    expect("map_wire", wolfcloak_map_wire(gate, 30, gate_f, g, map, 6, &value), WOLFCLOAK_OK);
+    expect("map_wire", wolfcloak_map_wire(me, gate, 30, gate_f, g, map, 6, &value), WOLFCLOAK_OK);
     expect("the wire without a mask", value, 0);
-    expect("map_write", wolfcloak_map_write(gate, 30, gate_f, g, map, 6, 4, 255), WOLFCLOAK_OK);
-    expect("map_write", wolfcloak_map_write(gate, 30, gate_f, g, map, 6, 5, 255), WOLFCLOAK_OK);
-    expect("map_read", wolfcloak_map_read(gate, 30, gate_f, g, map, 6, 5, &value), WOLFCLOAK_OK);
+    expect("map_write", wolfcloak_map_write(me, gate, 30, gate_f, g, map, 6, 4, 255), WOLFCLOAK_OK);
+    expect("map_write", wolfcloak_map_write(me, gate, 30, gate_f, g, map, 6, 5, 255), WOLFCLOAK_OK);
+    expect("map_read", wolfcloak_map_read(me, gate, 30, gate_f, g, map, 6, 5, &value), WOLFCLOAK_OK);
     expect("a mask byte, no bit past n", value, 1);
-    expect("map_wire", wolfcloak_map_wire(gate, 30, gate_f, g, map, 6, &value), WOLFCLOAK_OK);
+    expect("map_wire", wolfcloak_map_wire(me, gate, 30, gate_f, g, map, 6, &value), WOLFCLOAK_OK);
     expect("the wire", value, 1);
     for (size_t a = 0; a < 4; a++) {
-        expect("map_write", wolfcloak_map_write(gate, 30, gate_f, g, map, 6, a, 254), WOLFCLOAK_OK);
+        expect("map_write", wolfcloak_map_write(me, gate, 30, gate_f, g, map, 6, a, 254), WOLFCLOAK_OK);
         expect("a flag byte, but for its lowest bit", map[a] & 254, 0);
-        expect("map_write", wolfcloak_map_write(gate, 30, gate_f, g, map, 6, a, 1), WOLFCLOAK_OK);
+        expect("map_write", wolfcloak_map_write(me, gate, 30, gate_f, g, map, 6, a, 1), WOLFCLOAK_OK);
         expect("a flag byte", map[a], 0);
     }
-    expect("map_wire", wolfcloak_map_wire(gate, 30, gate_f, g, map, 6, &value), WOLFCLOAK_OK);
+    expect("map_wire", wolfcloak_map_wire(me, gate, 30, gate_f, g, map, 6, &value), WOLFCLOAK_OK);
     expect("the wire, all cleared", value, 0);
     value = 7;
-    expect("address 6", wolfcloak_map_read(gate, 30, gate_f, g, map, 6, 6, &value), WOLFCLOAK_REFUSED_ADDRESS);
+    expect("address 6", wolfcloak_map_read(me, gate, 30, gate_f, g, map, 6, 6, &value), WOLFCLOAK_REFUSED_ADDRESS);
     expect("what a refusal leaves", value, 7);
+    map[0] = 1;
+    expect("a keeper's write", wolfcloak_map_write(WOLFCLOAK_KEEPER, gate, 30, gate_f, g, map, 6, 0, 255), WOLFCLOAK_REFUSED_RIGHT);
+    expect("the flag that it would have cleared", map[0], 1);
+    expect("a leader's write", wolfcloak_map_write(WOLFCLOAK_LEADER, gate, 30, gate_f, g, map, 6, 0, 255), WOLFCLOAK_OK);
+    expect("the flag that it has cleared", map[0], 0);
     map[5] = 2;
-    expect("a bit past n", wolfcloak_map_write(gate, 30, gate_f, g, map, 6, 6, 0), WOLFCLOAK_REFUSED_UNSOUND);
+    expect("a bit past n", wolfcloak_map_write(me, gate, 30, gate_f, g, map, 6, 6, 0), WOLFCLOAK_REFUSED_UNSOUND);
     free(nine);
     free(nine_f);
     free(gate_f);
@@ -332,6 +345,8 @@ static void linear_hops(void)
     uint16_t with_db[TWO], linear[TWO], gate[2][WOLFCLOAK_GATE_LEN];
     double with_db_f[10], linear_f[10], gate_f[2][14];
     uint8_t rise[2][2] = {{9, 9}, {8, 8}}, drop[2][2] = {{9, 9}, {8, 8}}, map[3];
+    uint16_t worst[2][WOLFCLOAK_WORST_LEN];
+    double worst_f[2][4];
 
     expect("dB of no power", wolfcloak_power_db(0), -200);
     expect("dB of 1", wolfcloak_power_db(1), 0);
@@ -339,16 +354,16 @@ static void linear_hops(void)
     expect("dB of infinity", wolfcloak_power_db(INFINITY), 400);
     expect("dB of a NaN", wolfcloak_power_db(NAN), -260);
     expect("dB below no power", wolfcloak_power_db(-1), -260);
-    expect("bank_new", wolfcloak_bank_new(with_db, TWO, with_db_f, 10, 2), WOLFCLOAK_OK);
-    expect("bank_new", wolfcloak_bank_new(linear, TWO, linear_f, 10, 2), WOLFCLOAK_OK);
+    expect("bank_new", wolfcloak_bank_new(me, with_db, TWO, with_db_f, 10, 2), WOLFCLOAK_OK);
+    expect("bank_new", wolfcloak_bank_new(me, linear, TWO, linear_f, 10, 2), WOLFCLOAK_OK);
     for (int g = 0; g < 2; g++)
-        expect("gate_new", wolfcloak_gate_new(gate[g], 30, gate_f[g], 14, 2, 8, 8, 80, lengths, 1), WOLFCLOAK_OK);
+        expect("gate_new", wolfcloak_gate_new(me, gate[g], 30, gate_f[g], 14, 2, 8, 8, 80, lengths, 1), WOLFCLOAK_OK);
     for (int hop = 0; hop < 20; hop++) {
-        expect("bank_update", wolfcloak_bank_update_holding_reference(with_db, TWO, with_db_f, 10, db, 2, loud, 2, hop % 3 == 0), WOLFCLOAK_OK);
-        expect("bank_update_linear", wolfcloak_bank_update_linear(linear, TWO, linear_f, 10, loud, 2, hop % 3 == 0), WOLFCLOAK_OK);
-        expect("gate_update", wolfcloak_gate_update(with_db, TWO, with_db_f, 10, gate[0], 30, gate_f[0], 14, db, 2, loud, 2,
+        expect("bank_update", wolfcloak_bank_update_holding_reference(me, with_db, TWO, with_db_f, 10, db, 2, loud, 2, hop % 3 == 0), WOLFCLOAK_OK);
+        expect("bank_update_linear", wolfcloak_bank_update_linear(me, linear, TWO, linear_f, 10, loud, 2, hop % 3 == 0), WOLFCLOAK_OK);
+        expect("gate_update", wolfcloak_gate_update(me, with_db, TWO, with_db_f, 10, gate[0], 30, gate_f[0], 14, db, 2, loud, 2,
                                                     rise[0], 2, drop[0], 2), WOLFCLOAK_OK);
-        expect("gate_update_linear", wolfcloak_gate_update_linear(linear, TWO, linear_f, 10, gate[1], 30, gate_f[1], 14, loud, 2,
+        expect("gate_update_linear", wolfcloak_gate_update_linear(me, linear, TWO, linear_f, 10, gate[1], 30, gate_f[1], 14, loud, 2,
                                                                   rise[1], 2, drop[1], 2), WOLFCLOAK_OK);
     }
     expect("the bank's words", memcmp(with_db, linear, sizeof linear), 0);
@@ -357,14 +372,74 @@ static void linear_hops(void)
     expect("the gate's floats", memcmp(gate_f[0], gate_f[1], sizeof gate_f[0]), 0);
     expect("rise", memcmp(rise[0], rise[1], 2), 0);
     expect("drop", memcmp(drop[0], drop[1], 2), 0);
-    expect("map_new", wolfcloak_map_new(gate[1], 30, gate_f[1], 14, map, 3), WOLFCLOAK_OK);
-    expect("gate_update_linear_map", wolfcloak_gate_update_linear_map(linear, TWO, linear_f, 10, gate[1], 30, gate_f[1], 14, map, 3, loud, 2,
+    expect("map_new", wolfcloak_map_new(me, gate[1], 30, gate_f[1], 14, map, 3), WOLFCLOAK_OK);
+    expect("gate_update_linear_map", wolfcloak_gate_update_linear_map(me, linear, TWO, linear_f, 10, gate[1], 30, gate_f[1], 14, map, 3, loud, 2,
                                                                       rise[1], 2, drop[1], 2), WOLFCLOAK_OK);
     expect("rise flags", map[0], rise[1][0] + 2 * rise[1][1]);
     expect("drop flags", map[1], drop[1][0] + 2 * drop[1][1]);
+    for (int w = 0; w < 2; w++)
+        expect("worst_new", wolfcloak_worst_new(me, worst[w], 4, worst_f[w], 4, 2, 2), WOLFCLOAK_OK);
+    for (int hop = 0; hop < 20; hop++) {
+        expect("bank_update_worst", wolfcloak_bank_update_worst(me, with_db, TWO, with_db_f, 10, worst[0], 4, worst_f[0], 4, db, 2, loud, 2, false),
+               WOLFCLOAK_OK);
+        expect("bank_update_linear_worst",
+               wolfcloak_bank_update_linear_worst(me, linear, TWO, linear_f, 10, worst[1], 4, worst_f[1], 4, loud, 2, false), WOLFCLOAK_OK);
+    }
+    expect("the bank's words, carrying", memcmp(with_db, linear, sizeof linear), 0);
+    expect("the worst floor's words", memcmp(worst[0], worst[1], sizeof worst[0]), 0);
+    expect("the worst floor's floats", memcmp(worst_f[0], worst_f[1], sizeof worst_f[0]), 0);
+    expect("the worst floor's slow hops", worst[1][3] > 0, 1);
     linear[1] = 0;
-    expect("a NaN power on a slow hop", wolfcloak_bank_update_linear(linear, TWO, linear_f, 10, garbled, 2, false), WOLFCLOAK_OK);
-    expect("a power too few", wolfcloak_bank_update_linear(linear, TWO, linear_f, 10, loud, 1, false), WOLFCLOAK_REFUSED_HOP_SIZE);
+    expect("a NaN power on a slow hop", wolfcloak_bank_update_linear(me, linear, TWO, linear_f, 10, garbled, 2, false), WOLFCLOAK_OK);
+    expect("a power too few", wolfcloak_bank_update_linear(me, linear, TWO, linear_f, 10, loud, 1, false), WOLFCLOAK_REFUSED_HOP_SIZE);
+}
+
+/* A leader remakes a gate that has heard a tone: it is as if it had been made with the new levels. The checks in their order before. */
+static void remade(void)
+{
+    static const uint16_t lengths[3] = {2, 1, 2};
+    uint16_t gate[WOLFCLOAK_GATE_LEN], fresh[WOLFCLOAK_GATE_LEN];
+    double gate_f[26], fresh_f[26]; /* 2 + (8 + 2 + 2) + (4 + 2 + 2) + 2 + 2 */
+    uint8_t rise[2], drop[2];
+
+    expect("gate_new", wolfcloak_gate_new(me, gate, 30, gate_f, 26, 2, 48, 16, 80, lengths, 3), WOLFCLOAK_OK);
+    expect("gate_update", wolfcloak_gate_update(me, bank, TWO, bank_f, 10, gate, 30, gate_f, 26, tone_db, 2, tone, 2, rise, 2, drop, 2),
+           WOLFCLOAK_OK);
+    memcpy(fresh, gate, sizeof gate);
+    memcpy(fresh_f, gate_f, sizeof gate_f);
+    expect("a keeper's remake", wolfcloak_gate_remake(WOLFCLOAK_KEEPER, gate, 29, gate_f, 26, 801, 0, 0), WOLFCLOAK_REFUSED_RIGHT);
+    expect("a leader's of a short gate", wolfcloak_gate_remake(WOLFCLOAK_LEADER, gate, 29, gate_f, 26, 801, 0, 0), WOLFCLOAK_REFUSED_STORE_SIZE);
+    expect("a level too high", wolfcloak_gate_remake(WOLFCLOAK_LEADER, gate, 30, gate_f, 26, 801, 0, 0), WOLFCLOAK_REFUSED_LEVEL);
+    expect("words after a refusal", memcmp(gate, fresh, sizeof gate), 0);
+    expect("floats after a refusal", memcmp(gate_f, fresh_f, sizeof gate_f), 0);
+    expect("gate_remake", wolfcloak_gate_remake(WOLFCLOAK_LEADER, gate, 30, gate_f, 26, 8, -8, WOLFCLOAK_NO_EARLY), WOLFCLOAK_OK);
+    expect("gate_new", wolfcloak_gate_new(me, fresh, 30, fresh_f, 26, 2, 8, -8, WOLFCLOAK_NO_EARLY, lengths, 3), WOLFCLOAK_OK);
+    expect("a remade gate's words", memcmp(gate, fresh, sizeof gate), 0);
+    expect("a remade gate's floats", memcmp(gate_f, fresh_f, sizeof gate_f), 0);
+}
+
+/* A role that lacks the right gets 16 before what else is due, and nothing is written. */
+static void roles(void)
+{
+    uint16_t gate[WOLFCLOAK_GATE_LEN] = {0};
+    double value = 7;
+    uint8_t rise[2] = {9, 9}, drop[2] = {9, 9};
+    size_t last = 5;
+
+    expect("a keeper's reading", wolfcloak_channel_floor_db(WOLFCLOAK_KEEPER, bank, TWO, bank_f, 10, 1, &value), WOLFCLOAK_OK);
+    value = 7;
+    expect("a reading in role 3", wolfcloak_channel_floor_db(3, bank, TWO, bank_f, 10, 2, &value), WOLFCLOAK_REFUSED_RIGHT);
+    expect("its value", value, 7);
+    expect("a keeper's hold, with a store that is no gate",
+           wolfcloak_gate_hold(WOLFCLOAK_KEEPER, bank, TWO, bank_f, 10, gate, 30, &value, 1, rise, 2, drop, 2),
+           WOLFCLOAK_REFUSED_RIGHT);
+    expect("a technician's", wolfcloak_gate_hold(me, bank, TWO, bank_f, 10, gate, 30, &value, 1, rise, 2, drop, 2),
+           WOLFCLOAK_REFUSED_UNSOUND);
+    expect_marks("rise", rise, 9, 9);
+    expect("a leader's update", wolfcloak_bank_update(WOLFCLOAK_LEADER, bank, TWO, bank_f, 10, tone_db, 2, tone, 2),
+           WOLFCLOAK_REFUSED_RIGHT);
+    expect("a leader's tick", wolfcloak_dispatch(WOLFCLOAK_LEADER, 0, 0, &last), WOLFCLOAK_REFUSED_RIGHT);
+    expect("the last served as it was", last, 5);
 }
 
 int main(void)
@@ -380,6 +455,8 @@ int main(void)
     worst_of_late();
     ticks();
     registers();
+    remade();
+    roles();
     puts(wrong ? "tests/link: failed" : "tests/link: ok");
     return wrong != 0;
 }

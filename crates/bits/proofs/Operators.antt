@@ -119,4 +119,3 @@ low-is (suc (suc (suc (suc (suc (suc zero)))))) h k = refl
 low-is (suc (suc (suc (suc (suc (suc (suc zero))))))) h k = refl
 low-is (suc (suc (suc (suc (suc (suc (suc (suc zero)))))))) h k = refl
 low-is (suc (suc (suc (suc (suc (suc (suc (suc (suc u))))))))) h k = absurd (omega arith)
-

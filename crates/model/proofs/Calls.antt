@@ -26,12 +26,14 @@ use Rattle.model.proofs.FreshGates.{bare, good-update, good-hold}
 use Rattle.model.proofs.Pairs.{true-update, true-hold, bare-update, bare-hold}
 use Rattle.model.specs.Map.{mapLong}
 use Rattle.model.specs.MapCalls.{mapRefusal, gateUpdateIf, gateHoldIf}
-use Rattle.model.specs.MapReach.{mapLeftBy}
-use Rattle.model.specs.MapSets.{onMap}
+use Rattle.model.specs.MapReach.{MapCall, mapLeftBy}
+use Rattle.model.specs.MapSets.{doneOnMap, onMap}
 use Rattle.model.proofs.MapRefusals.{is-map, good-map}
 use Rattle.model.proofs.MapReach.{kept-by, write-does, write-answer}
 use Rattle.model.proofs.MapCarried.{hold-same, update-same, update-hears, hold-hears}
-use Rattle.model.specs.Demand3.{Call, Arguments, bank, gate, hold, write, Stores, step, answer, left, risesOf, arguments, leftBy, answers, bankHop, gateHop, bankHops, gateHops, bankIn}
+use Rattle.model.specs.Demand3.{Asked, Call, AskedWith, Arguments, bank, gate, hold, write, Stores, does, step, answer, left, marksBefore, risesDone, risesOf, with, exported, arguments, leftBy, answers, bankHop, gateHop, bankHops, gateHops, bankIn}
+use Rattle.roles.specs.Rights.{asRole}
+use Rattle.roles.proofs.Roles.{by-role, both-by-role}
 use Rattle.model.specs.Sets.{gateIn, worstIn, Sound}
 use Rattle.model.specs.Worst.{Worst}
 use Rattle.model.specs.WorstCalls.{worstRefusal}
@@ -46,28 +48,28 @@ good-run [] b g = g
 good-run (h ∷ hs) b g = good-run hs (bankStep b h) (good-step b h g)
 
 -- the gate after a call, by its answer
-abbrev pub gateAfter : ℕ → Gate → FloorBank → Arguments → Gate
+abbrev pub gateAfter : ℕ → Gate → FloorBank → AskedWith → Gate
 gateAfter zero g b (bank c h) = g
 gateAfter zero g b (gate c h rise drop) = updateStep g b (h .db) (h .power)
 gateAfter zero g b (hold c rise drop) = holdStep g b
 gateAfter zero g b (write i v) = g
 gateAfter (suc r) g b c = g
 
-good-after : (r : ℕ) (g : Gate) (b : FloorBank) (c : Arguments) → GoodGate g → GoodGate (gateAfter r g b c)
+good-after : (r : ℕ) (g : Gate) (b : FloorBank) (c : AskedWith) → GoodGate g → GoodGate (gateAfter r g b c)
 good-after zero g b (bank c h) q = q
 good-after zero g b (gate c h rise drop) q = good-update g b (h .db) (h .power) q
 good-after zero g b (hold c rise drop) q = good-hold g b q
 good-after zero g b (write i v) q = q
 good-after (suc r) g b c q = q
 
-pub true-after : (r : ℕ) (g : Gate) (b : FloorBank) (c : Arguments) → PairsTrue g → PairsTrue (gateAfter r g b c)
+pub true-after : (r : ℕ) (g : Gate) (b : FloorBank) (c : AskedWith) → PairsTrue g → PairsTrue (gateAfter r g b c)
 true-after zero g b (bank c h) q = q
 true-after zero g b (gate c h rise drop) q = true-update g b (h .db) (h .power) q
 true-after zero g b (hold c rise drop) q = true-hold g b q
 true-after zero g b (write i v) q = q
 true-after (suc r) g b c q = q
 
-pub bare-after : (r : ℕ) (g : Gate) (b : FloorBank) (c : Arguments) → bare (gateAfter r g b c) ≡ runGate (bare g) (gateHop r c)
+pub bare-after : (r : ℕ) (g : Gate) (b : FloorBank) (c : AskedWith) → bare (gateAfter r g b c) ≡ runGate (bare g) (gateHop r c)
 bare-after zero g b (bank c h) = refl
 bare-after zero g b (gate c h rise drop) = bare-update g b (h .db) (h .power)
 bare-after zero g b (hold c rise drop) = bare-hold g b
@@ -92,20 +94,24 @@ pub record SoundWorst (s : Stores) : Type 0 where
 pub sound-worst : (s : Stores) → Sound s → SoundWorst s
 sound-worst s v = record { worst-passes = v .worst-passes; worst-good = v .worst-good }
 
-pub record LeftWorst (s : Stores) (c : Call) : Type 0 where
-  pub worst-passes : worstRefusal (left s c .wu) (left s c .wf) ≡ 0
-  pub worst-is : worstIn (left s c) ≡ worstAfter (answer s c) (bankIn s) (worstIn s) (arguments c)
+-- what is answered and left, x, of what is asked, a
+pub record LeftWorst (s : Stores) (a : AskedWith) (x : ℕ × Stores) : Type 0 where
+  pub worst-passes : worstRefusal (x .1 .wu) (x .1 .wf) ≡ 0
+  pub worst-is : worstIn (x .1) ≡ worstAfter (x .0) (bankIn s) (worstIn s) a
 
-pub record LeftBank (s : Stores) (c : Call) : Type 0 where
-  pub bank-passes : bankRefusal (left s c .bu) (left s c .bf) ≡ 0
-  pub bank-is : bankIn (left s c) ≡ runBank (bankIn s) (bankHop (answer s c) (arguments c))
+pub record LeftBank (s : Stores) (a : AskedWith) (x : ℕ × Stores) : Type 0 where
+  pub bank-passes : bankRefusal (x .1 .bu) (x .1 .bf) ≡ 0
+  pub bank-is : bankIn (x .1) ≡ runBank (bankIn s) (bankHop (x .0) a)
 
--- of bank and gate
-pub record Left (s : Stores) (c : Call) : Type 0 where
-  pub bank-passes : bankRefusal (left s c .bu) (left s c .bf) ≡ 0
-  pub bank-is : bankIn (left s c) ≡ runBank (bankIn s) (bankHop (answer s c) (arguments c))
-  pub gate-passes : gateRefusal (left s c .gu) (left s c .gf) ≡ 0
-  pub gate-is : gateIn (left s c) ≡ gateAfter (answer s c) (gateIn s) (bankIn s) (arguments c)
+-- of the gate
+pub record LeftGate (s : Stores) (a : AskedWith) (x : ℕ × Stores) : Type 0 where
+  pub gate-passes : gateRefusal (x .1 .gu) (x .1 .gf) ≡ 0
+  pub gate-is : gateIn (x .1) ≡ gateAfter (x .0) (gateIn s) (bankIn s) a
+
+-- R-14: what holds of what is asked for and of a call that is stopped holds of a call
+by-right : (s : Stores) (c : Call) (P : ℕ × Stores → Type 0) → P (does s (c .asked)) → P (16, s) → P (step s c)
+unfolding step
+by-right s c P = by-role (exported (with (c .asked))) (c .role) P (λ r. (r, s)) (does s (c .asked))
 
 -- whatever a call answers: no bank update on the bank, nothing on the gate by a bank update, nothing on R-6's store by any other
 no-bank : (r : ℕ) (c : Bool) (h : GateHop) (i j : ℕ) → bankHop r (gate c h i j) ≡ []
@@ -140,7 +146,7 @@ no-worst-write : (r : ℕ) (b : FloorBank) (w : Worst) (i v : ℕ) → worstAfte
 no-worst-write zero b w i v = refl
 no-worst-write (suc r) b w i v = refl
 
-leaves-gate : (u : List ℕ) (f : List Float) (b : FloorBank) (c : Bool) (h : GateHop) (i j : ℕ) → gateRefusal u f ≡ 0 → GoodGate (gateOf u f) → (r : ℕ)
+pub leaves-gate : (u : List ℕ) (f : List Float) (b : FloorBank) (c : Bool) (h : GateHop) (i j : ℕ) → gateRefusal u f ≡ 0 → GoodGate (gateOf u f) → (r : ℕ)
     → (gateRefusal (gateLeaves r (updateStep (gateOf u f) b (h .db) (h .power)) u f .1) (gateLeaves r (updateStep (gateOf u f) b (h .db) (h .power)) u f .2) ≡ 0)
     × (gateOf (gateLeaves r (updateStep (gateOf u f) b (h .db) (h .power)) u f .1) (gateLeaves r (updateStep (gateOf u f) b (h .db) (h .power)) u f .2)
     ≡ gateAfter (gateLeaves r (updateStep (gateOf u f) b (h .db) (h .power)) u f .0) (gateOf u f) b (gate c h i j))
@@ -155,7 +161,7 @@ held-u u f b p =
     let r = gate-ready u f p in
     sym (gate-forth-u u f (r .long) (sizes u f r .few) (r .unused)) ∙ sym (ap gateU (bare-hold (gateOf u f) b))
 
-leaves-hold : (u : List ℕ) (f : List Float) (b : FloorBank) (c : Bool) (i j : ℕ) → gateRefusal u f ≡ 0 → GoodGate (gateOf u f) → (r : ℕ)
+pub leaves-hold : (u : List ℕ) (f : List Float) (b : FloorBank) (c : Bool) (i j : ℕ) → gateRefusal u f ≡ 0 → GoodGate (gateOf u f) → (r : ℕ)
     → (gateRefusal u (gateLeaves r (holdStep (gateOf u f) b) u f .2) ≡ 0)
     × (gateOf u (gateLeaves r (holdStep (gateOf u f) b) u f .2) ≡ gateAfter r (gateOf u f) b (hold c i j))
 leaves-hold u f b c i j p g zero =
@@ -166,17 +172,21 @@ leaves-hold u f b c i j p g zero =
     )
 leaves-hold u f b c i j p g (suc r) = (p, refl)
 
-pub left-bank : (s : Stores) → SoundBank s → (c : Call) → LeftBank s c
-unfolding step
-left-bank s v (bank c h) =
+does-bank : (s : Stores) → SoundBank s → (a : Asked) → LeftBank s (with a) (does s a)
+unfolding does
+does-bank s v (bank c h) =
     let b = leaves-bank (s .bu) (s .bf) (s .wu) (s .wf) h c (v .bank-passes) (v .bank-good) in
     record { bank-passes = b .0; bank-is = b .1 }
-left-bank s v (gate c h rise drop) =
-    record { bank-passes = v .bank-passes; bank-is = sym (ap (runBank (bankIn s)) (no-bank (answer s (gate c h rise drop)) c h _ _)) }
-left-bank s v (hold c rise drop) =
-    record { bank-passes = v .bank-passes; bank-is = sym (ap (runBank (bankIn s)) (no-bank-hold (answer s (hold c rise drop)) c _ _)) }
-left-bank s v (write i x) =
-    record { bank-passes = v .bank-passes; bank-is = sym (ap (runBank (bankIn s)) (no-bank-write (answer s (write i x)) i x)) }
+does-bank s v (gate c h rise drop) =
+    record { bank-passes = v .bank-passes; bank-is = sym (ap (runBank (bankIn s)) (no-bank (does s (gate c h rise drop) .0) c h _ _)) }
+does-bank s v (hold c rise drop) =
+    record { bank-passes = v .bank-passes; bank-is = sym (ap (runBank (bankIn s)) (no-bank-hold (does s (hold c rise drop) .0) c _ _)) }
+does-bank s v (write i x) =
+    record { bank-passes = v .bank-passes; bank-is = sym (ap (runBank (bankIn s)) (no-bank-write (does s (write i x) .0) i x)) }
+
+pub left-bank : (s : Stores) → SoundBank s → (c : Call) → LeftBank s (with (c .asked)) (step s c)
+left-bank s v c =
+    by-right s c (LeftBank s (with (c .asked))) (does-bank s v (c .asked)) (record { bank-passes = v .bank-passes; bank-is = refl })
 
 -- the gate after an update or a hold, carrying the map or not: as without it
 module _ (s : Stores) (v : Sound s) (c : Bool) where
@@ -204,62 +214,59 @@ module _ (s : Stores) (v : Sound s) (c : Bool) where
       (leaves-hold (s .gu) (s .gf) (bankIn s) c (length rise) (length drop) (v .gate-passes) (v .gate-good)
       (holdRefusal (s .bu) (s .bf) (s .gu) (s .gf) (length rise) (length drop)))
 
-pub left-worst : (s : Stores) → SoundWorst s → (c : Call) → LeftWorst s c
-unfolding step
-left-worst s v (bank c h) =
+does-worst : (s : Stores) → SoundWorst s → (a : Asked) → LeftWorst s (with a) (does s a)
+unfolding does
+does-worst s v (bank c h) =
     let w = leaves-worst (s .bu) (s .bf) (s .wu) (s .wf) h c (v .worst-passes) (v .worst-good) in
     record { worst-passes = w .0; worst-is = w .1 }
-left-worst s v (gate c h rise drop) =
-    record { worst-passes = v .worst-passes; worst-is = sym (no-worst (answer s (gate c h rise drop)) (bankIn s) (worstIn s) c h _ _) }
-left-worst s v (hold c rise drop) =
-    record { worst-passes = v .worst-passes; worst-is = sym (no-worst-hold (answer s (hold c rise drop)) (bankIn s) (worstIn s) c _ _) }
-left-worst s v (write i x) =
-    record { worst-passes = v .worst-passes; worst-is = sym (no-worst-write (answer s (write i x)) (bankIn s) (worstIn s) i x) }
+does-worst s v (gate c h rise drop) =
+    record { worst-passes = v .worst-passes; worst-is = sym (no-worst (does s (gate c h rise drop) .0) (bankIn s) (worstIn s) c h _ _) }
+does-worst s v (hold c rise drop) =
+    record { worst-passes = v .worst-passes; worst-is = sym (no-worst-hold (does s (hold c rise drop) .0) (bankIn s) (worstIn s) c _ _) }
+does-worst s v (write i x) =
+    record { worst-passes = v .worst-passes; worst-is = sym (no-worst-write (does s (write i x) .0) (bankIn s) (worstIn s) i x) }
 
-pub left-is : (s : Stores) → Sound s → (c : Call) → Left s c
-unfolding step
-left-is s v (bank c h) =
-    let b = left-bank s (sound-bank s v) (bank c h) in
-    record {
-      bank-passes = b .bank-passes;
-      bank-is = b .bank-is;
-      gate-passes = v .gate-passes;
-      gate-is = sym (no-gate (answer s (bank c h)) (gateIn s) (bankIn s) c h);
-    }
-left-is s v (gate c h rise drop) =
-    let b = left-bank s (sound-bank s v) (gate c h rise drop) in
-    let g = update-leaves s v c h rise drop in
-    record { bank-passes = b .bank-passes; bank-is = b .bank-is; gate-passes = g .0; gate-is = g .1 }
-left-is s v (hold c rise drop) =
-    let b = left-bank s (sound-bank s v) (hold c rise drop) in
-    let g = hold-leaves s v c rise drop in
-    record { bank-passes = b .bank-passes; bank-is = b .bank-is; gate-passes = g .0; gate-is = g .1 }
-left-is s v (write i x) =
-    let b = left-bank s (sound-bank s v) (write i x) in
-    record {
-      bank-passes = b .bank-passes;
-      bank-is = b .bank-is;
-      gate-passes = v .gate-passes;
-      gate-is = sym (no-gate-write (answer s (write i x)) (gateIn s) (bankIn s) i x);
-    }
+pub left-worst : (s : Stores) → SoundWorst s → (c : Call) → LeftWorst s (with (c .asked)) (step s c)
+left-worst s v c =
+    by-right s c (LeftWorst s (with (c .asked))) (does-worst s v (c .asked)) (record { worst-passes = v .worst-passes; worst-is = refl })
+
+does-gate : (s : Stores) → Sound s → (a : Asked) → LeftGate s (with a) (does s a)
+unfolding does
+does-gate s v (bank c h) =
+    record { gate-passes = v .gate-passes; gate-is = sym (no-gate (does s (bank c h) .0) (gateIn s) (bankIn s) c h) }
+does-gate s v (gate c h rise drop) = let g = update-leaves s v c h rise drop in record { gate-passes = g .0; gate-is = g .1 }
+does-gate s v (hold c rise drop) = let g = hold-leaves s v c rise drop in record { gate-passes = g .0; gate-is = g .1 }
+does-gate s v (write i x) =
+    record { gate-passes = v .gate-passes; gate-is = sym (no-gate-write (does s (write i x) .0) (gateIn s) (bankIn s) i x) }
+
+pub left-gate : (s : Stores) → Sound s → (c : Call) → LeftGate s (with (c .asked)) (step s c)
+left-gate s v c =
+    by-right s c (LeftGate s (with (c .asked))) (does-gate s v (c .asked)) (record { gate-passes = v .gate-passes; gate-is = refl })
 
 -- the gate's n stays, and what the call does to the map is R-12's list
 pub n-left : (s : Stores) (c : Call) → Sound s → getD (left s c .gu) 0 0 ≡ getD (s .gu) 0 0
 n-left s c v =
     sym (n-of (left s c .gu) (left s c .gf))
-    ∙ ap (λ (g : Gate). g .n) (left-is s v c .gate-is)
-    ∙ ap (λ (g : Gate). g .n) (bare-after (answer s c) (gateIn s) (bankIn s) (arguments c))
-    ∙ make-run (gateHop (answer s c) (arguments c)) (bare (gateIn s)) .n
+    ∙ ap (λ (g : Gate). g .n) (left-gate s v c .gate-is)
+    ∙ ap (λ (g : Gate). g .n) (bare-after (answer s c) (gateIn s) (bankIn s) (with (c .asked)))
+    ∙ make-run (gateHop (answer s c) (with (c .asked))) (bare (gateIn s)) .n
     ∙ n-of (s .gu) (s .gf)
+
+does-map : (s : Stores) (a : Asked) → Sound s → does s a .1 .map ≡ mapLeftBy (getD (s .gu) 0 0) (s .map) (doneOnMap s a)
+unfolding does doneOnMap
+does-map s (bank c h) v = refl
+does-map s (gate false h rise drop) v = refl
+does-map s (gate true h rise drop) v = update-hears (s .bu) (s .bf) (s .gu) (s .gf) (s .map) (v .map-passes) h rise drop
+does-map s (hold false rise drop) v = refl
+does-map s (hold true rise drop) v = hold-hears (s .bu) (s .bf) (s .gu) (s .gf) (s .map) (v .map-passes) rise drop
+does-map s (write i x) v = ap (λ (a : ℕ × List ℕ). a .1) (write-does (s .gu) (s .gf) (s .map) (v .gate-passes) i x)
 
 pub map-left : (s : Stores) (c : Call) → Sound s → left s c .map ≡ mapLeftBy (getD (s .gu) 0 0) (s .map) (onMap s c)
 unfolding step onMap
-map-left s (bank c h) v = refl
-map-left s (gate false h rise drop) v = refl
-map-left s (gate true h rise drop) v = update-hears (s .bu) (s .bf) (s .gu) (s .gf) (s .map) (v .map-passes) h rise drop
-map-left s (hold false rise drop) v = refl
-map-left s (hold true rise drop) v = hold-hears (s .bu) (s .bf) (s .gu) (s .gf) (s .map) (v .map-passes) rise drop
-map-left s (write i x) v = ap (λ (a : ℕ × List ℕ). a .1) (write-does (s .gu) (s .gf) (s .map) (v .gate-passes) i x)
+map-left s c v =
+    both-by-role (exported (with (c .asked))) (c .role)
+    (λ (x : ℕ × Stores) (l : List MapCall). x .1 .map ≡ mapLeftBy (getD (s .gu) 0 0) (s .map) l)
+    (λ r. (r, s)) (does s (c .asked)) (λ _. []) (doneOnMap s (c .asked)) (does-map s (c .asked) v) refl
 
 map-stays : (s : Stores) (c : Call) → Sound s → mapRefusal (getD (left s c .gu) 0 0) (left s c .map) ≡ 0
 map-stays s c v =
@@ -273,7 +280,7 @@ bank-left s c v =
     let l = left-bank s v c in
     record {
       bank-passes = l .bank-passes;
-      bank-good = subst Good (sym (l .bank-is)) (good-run (bankHop (answer s c) (arguments c)) (bankIn s) (v .bank-good));
+      bank-good = subst Good (sym (l .bank-is)) (good-run (bankHop (answer s c) (with (c .asked))) (bankIn s) (v .bank-good));
     }
 
 pub worst-left : (s : Stores) (c : Call) → SoundWorst s → SoundWorst (left s c)
@@ -281,26 +288,26 @@ worst-left s c v =
     let l = left-worst s v c in
     record {
       worst-passes = l .worst-passes;
-      worst-good = subst GoodWorst (sym (l .worst-is)) (good-worst-after (answer s c) (bankIn s) (worstIn s) (arguments c) (v .worst-good));
+      worst-good = subst GoodWorst (sym (l .worst-is)) (good-worst-after (answer s c) (bankIn s) (worstIn s) (with (c .asked)) (v .worst-good));
     }
 
 -- both stay as long as they are
 pub bank-n-left : (s : Stores) (c : Call) → SoundBank s → bankIn (left s c) .n ≡ bankIn s .n
-bank-n-left s c v = ap (λ (b : FloorBank). b .n) (left-bank s v c .bank-is) ∙ n-run (bankHop (answer s c) (arguments c)) (bankIn s)
+bank-n-left s c v = ap (λ (b : FloorBank). b .n) (left-bank s v c .bank-is) ∙ n-run (bankHop (answer s c) (with (c .asked))) (bankIn s)
 
 pub worst-n-left : (s : Stores) (c : Call) → SoundWorst s → worstIn (left s c) .n ≡ worstIn s .n
-worst-n-left s c v = ap (λ (w : Worst). w .n) (left-worst s v c .worst-is) ∙ size-worst-after (answer s c) (bankIn s) (worstIn s) (arguments c)
+worst-n-left s c v = ap (λ (w : Worst). w .n) (left-worst s v c .worst-is) ∙ size-worst-after (answer s c) (bankIn s) (worstIn s) (with (c .asked))
 
 pub sound-left : (s : Stores) (c : Call) → Sound s → Sound (left s c)
 sound-left s c v =
     let b = bank-left s c (sound-bank s v) in
     let w = worst-left s c (sound-worst s v) in
-    let l = left-is s v c in
+    let l = left-gate s v c in
     record {
       bank-passes = b .bank-passes;
       bank-good = b .bank-good;
       gate-passes = l .gate-passes;
-      gate-good = subst GoodGate (sym (l .gate-is)) (good-after (answer s c) (gateIn s) (bankIn s) (arguments c) (v .gate-good));
+      gate-good = subst GoodGate (sym (l .gate-is)) (good-after (answer s c) (gateIn s) (bankIn s) (with (c .asked)) (v .gate-good));
       worst-passes = w .worst-passes;
       worst-good = w .worst-good;
       worst-n = worst-n-left s c (sound-worst s v) ∙ v .worst-n ∙ sym (bank-n-left s c (sound-bank s v));
@@ -308,10 +315,10 @@ sound-left s c v =
     }
 
 pub true-left : (s : Stores) (c : Call) → Sound s → PairsTrue (gateIn s) → PairsTrue (gateIn (left s c))
-true-left s c v p = subst PairsTrue (sym (left-is s v c .gate-is)) (true-after (answer s c) (gateIn s) (bankIn s) (arguments c) p)
+true-left s c v p = subst PairsTrue (sym (left-gate s v c .gate-is)) (true-after (answer s c) (gateIn s) (bankIn s) (with (c .asked)) p)
 
-pub bare-left : (s : Stores) (c : Call) → Sound s → bare (gateIn (left s c)) ≡ runGate (bare (gateIn s)) (gateHop (answer s c) (arguments c))
-bare-left s c v = ap bare (left-is s v c .gate-is) ∙ bare-after (answer s c) (gateIn s) (bankIn s) (arguments c)
+pub bare-left : (s : Stores) (c : Call) → Sound s → bare (gateIn (left s c)) ≡ runGate (bare (gateIn s)) (gateHop (answer s c) (with (c .asked)))
+bare-left s c v = ap bare (left-gate s v c .gate-is) ∙ bare-after (answer s c) (gateIn s) (bankIn s) (with (c .asked))
 
 -- ---- lists of calls
 
@@ -323,11 +330,11 @@ pub true-run : (cs : List Call) (s : Stores) → Sound s → PairsTrue (gateIn s
 true-run [] s v p = p
 true-run (c ∷ cs) s v p = true-run cs (left s c) (sound-left s c v) (true-left s c v p)
 
-bank-append : (xs ys : List Hop) (b : FloorBank) → runBank b (xs ++ ys) ≡ runBank (runBank b xs) ys
+pub bank-append : (xs ys : List Hop) (b : FloorBank) → runBank b (xs ++ ys) ≡ runBank (runBank b xs) ys
 bank-append [] ys b = refl
 bank-append (x ∷ xs) ys b = bank-append xs ys (bankStep b x)
 
-gate-append : (xs ys : List GateHop) (g : Gate) → runGate g (xs ++ ys) ≡ runGate (runGate g xs) ys
+pub gate-append : (xs ys : List GateHop) (g : Gate) → runGate g (xs ++ ys) ≡ runGate (runGate g xs) ys
 gate-append [] ys g = refl
 gate-append (x ∷ xs) ys g = gate-append xs ys (gateStep g (x .db) (x .power))
 
@@ -336,75 +343,93 @@ bank-run [] s v = refl
 bank-run (c ∷ cs) s v =
     bank-run cs (left s c) (bank-left s c v)
     ∙ ap (λ (b : FloorBank). runBank b (bankHops (left s c) cs)) (left-bank s v c .bank-is)
-    ∙ sym (bank-append (bankHop (answer s c) (arguments c)) (bankHops (left s c) cs) (bankIn s))
+    ∙ sym (bank-append (bankHop (answer s c) (with (c .asked))) (bankHops (left s c) cs) (bankIn s))
 
 pub gate-run : (cs : List Call) (s : Stores) → Sound s → bare (gateIn (leftBy s cs)) ≡ runGate (bare (gateIn s)) (gateHops s cs)
 gate-run [] s v = refl
 gate-run (c ∷ cs) s v =
     gate-run cs (left s c) (sound-left s c v)
     ∙ ap (λ (g : Gate). runGate g (gateHops (left s c) cs)) (bare-left s c v)
-    ∙ sym (gate-append (gateHop (answer s c) (arguments c)) (gateHops (left s c) cs) (bare (gateIn s)))
+    ∙ sym (gate-append (gateHop (answer s c) (with (c .asked))) (gateHops (left s c) cs) (bare (gateIn s)))
 
 -- ---- what is refused
 
 -- with sound stores, by the bank's n and phase and the gate's n alone: carrying R-6's store refuses no more
-unfoldable pub refuse : ℕ → ℕ → ℕ → Arguments → ℕ
-refuse nb phase ng (bank c h) = first (differ (length (h .db)) nb || differ (length (h .power)) nb) 5 (first (eqb phase 0 && garbled nb (h .db)) 6 0)
-refuse nb phase ng (gate c h rise drop) =
+unfoldable pub refuseAsked : ℕ → ℕ → ℕ → AskedWith → ℕ
+refuseAsked nb phase ng (bank c h) = first (differ (length (h .db)) nb || differ (length (h .power)) nb) 5 (first (eqb phase 0 && garbled nb (h .db)) 6 0)
+refuseAsked nb phase ng (gate c h rise drop) =
     orElse (first (differ nb ng) 8 0) (first (differ (length (h .db)) ng || differ (length (h .power)) ng || differ rise ng || differ drop ng) 5 0)
-refuse nb phase ng (hold c rise drop) = orElse (first (differ nb ng) 8 0) (first (differ rise ng || differ drop ng) 5 0)
-refuse nb phase ng (write i v) = first (not (ltb i (mapLong ng))) 15 0
+refuseAsked nb phase ng (hold c rise drop) = orElse (first (differ nb ng) 8 0) (first (differ rise ng || differ drop ng) 5 0)
+refuseAsked nb phase ng (write i v) = first (not (ltb i (mapLong ng))) 15 0
+
+unfoldable pub refuse : ℕ → ℕ → ℕ → Arguments → ℕ
+refuse nb phase ng a = asRole (exported (a .asked)) (a .role) (λ r. r) (refuseAsked nb phase ng (a .asked))
 
 pub gate-answer : (r : ℕ) (g : Gate) (u : List ℕ) (f : List Float) → gateLeaves r g u f .0 ≡ r
 gate-answer zero g u f = refl
 gate-answer (suc r) g u f = refl
 
 update-refuses : (s : Stores) → SoundBank s → (c : Bool) (h : Hop) (ng : ℕ)
-    → updateRefusal (s .bu) (s .bf) (h .db) (h .power) ≡ refuse (bankIn s .n) (bankIn s .phase) ng (bank c h)
-unfolding updateRefusal bankOf refuse
+    → updateRefusal (s .bu) (s .bf) (h .db) (h .power) ≡ refuseAsked (bankIn s .n) (bankIn s .phase) ng (bank c h)
+unfolding updateRefusal bankOf refuseAsked
 update-refuses s v c h ng = rw (v .bank-passes)
 
-pub bank-answer : (s : Stores) → SoundBank s → (h : Hop) (ng : ℕ) → answer s (bank false h) ≡ refuse (bankIn s .n) (bankIn s .phase) ng (bank false h)
-unfolding step
+pub bank-answer : (s : Stores) → SoundBank s → (h : Hop) (ng : ℕ) → does s (bank false h) .0 ≡ refuseAsked (bankIn s .n) (bankIn s .phase) ng (bank false h)
+unfolding does
 bank-answer s v h ng = answer-alone (s .bu) (s .bf) (s .wu) (s .wf) h ∙ update-refuses s v false h ng
 
-pub answer-is : (s : Stores) → Sound s → (c : Call) → answer s c ≡ refuse (bankIn s .n) (bankIn s .phase) (gateIn s .n) (arguments c)
-unfolding step gateUpdate gateUpdateRefusal pairRefusal gateHold holdRefusal bankOf gateOf refuse
-answer-is s v (bank c h) =
+does-answer : (s : Stores) → Sound s → (a : Asked) → does s a .0 ≡ refuseAsked (bankIn s .n) (bankIn s .phase) (gateIn s .n) (with a)
+unfolding does gateUpdate gateUpdateRefusal pairRefusal gateHold holdRefusal bankOf gateOf refuseAsked
+does-answer s v (bank c h) =
     answer-same (s .bu) (s .bf) (s .wu) (s .wf) h c (v .bank-passes) (v .worst-passes) (v .worst-n)
     ∙ update-refuses s (sound-bank s v) c h (gateIn s .n)
-answer-is s v (gate c h rise drop) =
+does-answer s v (gate c h rise drop) =
     ap (λ (a : ℕ × List ℕ × List Float × List ℕ × List ℕ). a .0) (update-same (s .bu) (s .bf) (s .gu) (s .gf) (s .map) (v .map-passes) c h rise drop)
     ∙ gate-answer (gateUpdateRefusal (s .bu) (s .bf) (s .gu) (s .gf) (length (h .db)) (length (h .power)) (length rise) (length drop)) _ (s .gu) (s .gf)
     ∙ rw (v .bank-passes, v .gate-passes)
-answer-is s v (hold c rise drop) =
+does-answer s v (hold c rise drop) =
     ap (λ (a : ℕ × List Float × List ℕ × List ℕ). a .0) (hold-same (s .bu) (s .bf) (s .gu) (s .gf) (s .map) (v .map-passes) c rise drop)
     ∙ rw (v .bank-passes, v .gate-passes)
-answer-is s v (write i x) = write-answer (s .gu) (s .gf) (s .map) (v .gate-passes) (v .map-passes) i x
+does-answer s v (write i x) = write-answer (s .gu) (s .gf) (s .map) (v .gate-passes) (v .map-passes) i x
+
+pub answer-is : (s : Stores) → Sound s → (c : Call) → answer s c ≡ refuse (bankIn s .n) (bankIn s .phase) (gateIn s .n) (arguments c)
+unfolding step refuse
+answer-is s v c =
+    both-by-role (exported (with (c .asked))) (c .role) (λ (x : ℕ × Stores) (r : ℕ). x .0 ≡ r)
+    (λ r. (r, s)) (does s (c .asked)) (λ r. r) (refuseAsked (bankIn s .n) (bankIn s .phase) (gateIn s .n) (with (c .asked)))
+    (does-answer s v (c .asked)) refl
 
 -- ---- the rises that an accepted call writes
 
-unfoldable pub judged : Stores → Arguments → List ℕ
+unfoldable pub judged : Stores → AskedWith → List ℕ
 judged s (bank c h) = []
 judged s (gate c h rise drop) = riseBytes (updateStep (gateIn s) (bankIn s) (h .db) (h .power)) (bankIn s)
 judged s (hold c rise drop) = riseBytes (holdStep (gateIn s) (bankIn s)) (bankIn s)
 judged s (write i v) = []
 
-pub rises-are : (s : Stores) → Sound s → (c : Call) → answer s c ≡ 0 → risesOf s c ≡ judged s (arguments c)
-unfolding risesOf judged step gateUpdate gateHold
-rises-are s v (bank c h) e = refl
-rises-are s v (gate c h rise drop) e =
+rises-done : (s : Stores) → Sound s → (a : Asked) → does s a .0 ≡ 0 → risesDone s a ≡ judged s (with a)
+unfolding risesDone judged does gateUpdate gateHold
+rises-done s v (bank c h) e = refl
+rises-done s v (gate c h rise drop) e =
     let q = update-same (s .bu) (s .bf) (s .gu) (s .gf) (s .map) (v .map-passes) c h rise drop in
     ap (λ (a : ℕ × List ℕ × List Float × List ℕ × List ℕ). a .3) q
     ∙ ap (λ (r : ℕ). marksOf r (updateStep (gateIn s) (bankIn s) (h .db) (h .power)) (bankIn s) rise drop .0)
     (sym (gate-answer (gateUpdateRefusal (s .bu) (s .bf) (s .gu) (s .gf) (length (h .db)) (length (h .power)) (length rise) (length drop)) _ (s .gu) (s .gf))
     ∙ sym (ap (λ (a : ℕ × List ℕ × List Float × List ℕ × List ℕ). a .0) q)
     ∙ e)
-rises-are s v (hold c rise drop) e =
+rises-done s v (hold c rise drop) e =
     let q = hold-same (s .bu) (s .bf) (s .gu) (s .gf) (s .map) (v .map-passes) c rise drop in
     ap (λ (a : ℕ × List Float × List ℕ × List ℕ). a .2) q
     ∙ ap (λ (r : ℕ). marksOf r (holdStep (gateIn s) (bankIn s)) (bankIn s) rise drop .0) (sym (ap (λ (a : ℕ × List Float × List ℕ × List ℕ). a .0) q) ∙ e)
-rises-are s v (write i x) e = refl
+rises-done s v (write i x) e = refl
+
+-- an accepted call was not stopped
+pub rises-are : (s : Stores) → Sound s → (c : Call) → answer s c ≡ 0 → risesOf s c ≡ judged s (with (c .asked))
+unfolding step risesOf
+rises-are s v c =
+    both-by-role (exported (with (c .asked))) (c .role) (λ (x : ℕ × Stores) (l : List ℕ). x .0 ≡ 0 → l ≡ judged s (with (c .asked)))
+    (λ r. (r, s)) (does s (c .asked)) (λ _. marksBefore (c .asked) .0) (risesDone s (c .asked))
+    (rises-done s v (c .asked)) (λ e. absurd (omega arith))
 
 -- ---- two sets
 
@@ -437,24 +462,24 @@ twins-left s t w c d e =
       phase = rw (l .bank-is, r .bank-is, ← hops) (k .1);
       gate-n =
           ap (λ (g : Gate). g .n) (bare-left s c (w .one))
-          ∙ make-run (gateHop (answer s c) (arguments c)) (bare (gateIn s)) .n
+          ∙ make-run (gateHop (answer s c) (with (c .asked))) (bare (gateIn s)) .n
           ∙ w .gate-n
-          ∙ sym (make-run (gateHop (answer t d) (arguments d)) (bare (gateIn t)) .n)
+          ∙ sym (make-run (gateHop (answer t d) (with (d .asked))) (bare (gateIn t)) .n)
           ∙ sym (ap (λ (g : Gate). g .n) (bare-left t d (w .other)));
     }
   where
-    l : Left s c
-    l = left-is s (w .one) c
+    l : LeftBank s (with (c .asked)) (step s c)
+    l = left-bank s (sound-bank s (w .one)) c
 
-    r : Left t d
-    r = left-is t (w .other) d
+    r : LeftBank t (with (d .asked)) (step t d)
+    r = left-bank t (sound-bank t (w .other)) d
 
-    hops : bankHop (answer s c) (arguments c) ≡ bankHop (answer t d) (arguments d)
-    hops = ap₂ bankHop (same-answer s t w c d e) e
+    hops : bankHop (answer s c) (with (c .asked)) ≡ bankHop (answer t d) (with (d .asked))
+    hops = ap₂ bankHop (same-answer s t w c d e) (ap (λ (a : Arguments). a .asked) e)
 
-    k : (runBank (bankIn s) (bankHop (answer s c) (arguments c)) .n ≡ runBank (bankIn t) (bankHop (answer s c) (arguments c)) .n)
-        × (runBank (bankIn s) (bankHop (answer s c) (arguments c)) .phase ≡ runBank (bankIn t) (bankHop (answer s c) (arguments c)) .phase)
-    k = bank-key (bankIn s) (bankIn t) (bankHop (answer s c) (arguments c)) (w .one .bank-good) (w .other .bank-good) (w .n) (w .phase)
+    k : (runBank (bankIn s) (bankHop (answer s c) (with (c .asked))) .n ≡ runBank (bankIn t) (bankHop (answer s c) (with (c .asked))) .n)
+        × (runBank (bankIn s) (bankHop (answer s c) (with (c .asked))) .phase ≡ runBank (bankIn t) (bankHop (answer s c) (with (c .asked))) .phase)
+    k = bank-key (bankIn s) (bankIn t) (bankHop (answer s c) (with (c .asked))) (w .one .bank-good) (w .other .bank-good) (w .n) (w .phase)
 
 -- the same list after both
 pub record SameRun (s t : Stores) (cs ds : List Call) : Type 0 where
@@ -474,7 +499,7 @@ same-run (c ∷ cs) (d ∷ ds) s t w e =
     let r = same-run cs ds (left s c) (left t d) (twins-left s t w c d e₀) e₁ in
     record {
       same-answers = λ i. a i ∷ r .same-answers i;
-      same-bank = λ i. bankHop (a i) (e₀ i) ++ r .same-bank i;
-      same-gate = λ i. gateHop (a i) (e₀ i) ++ r .same-gate i;
+      same-bank = λ i. bankHop (a i) (e₀ i .asked) ++ r .same-bank i;
+      same-gate = λ i. gateHop (a i) (e₀ i .asked) ++ r .same-gate i;
       twins = r .twins;
     }

@@ -15,7 +15,7 @@ use Rattle.model.specs.Worst.{Worst, worstOf, floorsTaken, takenAt, wors
 use Rattle.model.specs.WorstCalls.{worstRefusal, besideRefusal, carryRefusal, bothLeave, worstUpdate, updateIf}
 use Rattle.model.specs.GoodBank.{Good}
 use Rattle.model.specs.GoodWorst.{GoodWorst}
-use Rattle.model.specs.Demand3.{Arguments, bank, gate, hold, write, bankHop}
+use Rattle.model.specs.Demand3.{AskedWith, bank, gate, hold, write, bankHop}
 use Rattle.model.proofs.GoodBanks.{bank-back, passes}
 use Rattle.model.proofs.FreshBanks.{good-step}
 use Rattle.model.proofs.WorstStores.{worst-back, worst-passes}
@@ -43,7 +43,7 @@ span-at zero b w = refl
 span-at (suc p) b w = refl
 
 -- the store after a call, by its answer
-abbrev pub worstAfter : ℕ → FloorBank → Worst → Arguments → Worst
+abbrev pub worstAfter : ℕ → FloorBank → Worst → AskedWith → Worst
 worstAfter zero b w (bank true h) = worstStep b h w
 worstAfter zero b w (bank false h) = w
 worstAfter zero b w (gate c h rise drop) = w
@@ -51,7 +51,7 @@ worstAfter zero b w (hold c rise drop) = w
 worstAfter zero b w (write i v) = w
 worstAfter (suc r) b w c = w
 
-pub good-worst-after : (r : ℕ) (b : FloorBank) (w : Worst) (c : Arguments) → GoodWorst w → GoodWorst (worstAfter r b w c)
+pub good-worst-after : (r : ℕ) (b : FloorBank) (w : Worst) (c : AskedWith) → GoodWorst w → GoodWorst (worstAfter r b w c)
 good-worst-after zero b w (bank true h) g = good-worst-step b h w g
 good-worst-after zero b w (bank false h) g = g
 good-worst-after zero b w (gate c h rise drop) g = g
@@ -59,7 +59,7 @@ good-worst-after zero b w (hold c rise drop) g = g
 good-worst-after zero b w (write i v) g = g
 good-worst-after (suc r) b w c g = g
 
-pub size-worst-after : (r : ℕ) (b : FloorBank) (w : Worst) (c : Arguments) → worstAfter r b w c .n ≡ w .n
+pub size-worst-after : (r : ℕ) (b : FloorBank) (w : Worst) (c : AskedWith) → worstAfter r b w c .n ≡ w .n
 unfolding worstStep
 size-worst-after zero b w (bank true h) = size-at (b .phase) (bankStep b h) w
 size-worst-after zero b w (bank false h) = refl
@@ -68,7 +68,7 @@ size-worst-after zero b w (hold c rise drop) = refl
 size-worst-after zero b w (write i v) = refl
 size-worst-after (suc r) b w c = refl
 
-pub span-worst-after : (r : ℕ) (b : FloorBank) (w : Worst) (c : Arguments) → worstAfter r b w c .W ≡ w .W
+pub span-worst-after : (r : ℕ) (b : FloorBank) (w : Worst) (c : AskedWith) → worstAfter r b w c .W ≡ w .W
 unfolding worstStep
 span-worst-after zero b w (bank true h) = span-at (b .phase) (bankStep b h) w
 span-worst-after zero b w (bank false h) = refl

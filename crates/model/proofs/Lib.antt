@@ -33,9 +33,11 @@ pub mod SettledFloors
 pub mod Windows
 pub mod Rises
 pub mod Carrying
+pub mod Remake
 pub mod Calls
 pub mod Made
 pub mod Demand3
+pub mod Season
 pub mod Sets
 pub mod Remembered
 pub mod Segments

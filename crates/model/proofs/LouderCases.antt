@@ -21,10 +21,11 @@ use Rattle.model.specs.Readings.{effectiveAt}
 use Rattle.model.specs.Bench.{minus}
 use Rattle.model.specs.Refusals.{makeRefusal, garbled}
 use Rattle.model.specs.Calls.{bankNew}
-use Rattle.model.specs.Demand3.{Call, bank, Stores, Lent, answer, left, arguments, bankHop, bankHops, bankIn, Making, newBank, made}
+use Rattle.roles.specs.Rights.{technician, asRole}
+use Rattle.model.specs.Demand3.{Call, askedBy, bank, Stores, Lent, step, answer, left, with, bankHop, bankHops, bankIn, Making, newBank, made}
 use Rattle.model.specs.Louder.{HopAtLeast, AtLeast, Louder, after, Somewhere, Rises, CanRise, Falls, CanFall}
 use Rattle.model.proofs.SettledFloors.{runBank, n-run}
-use Rattle.model.proofs.Calls.{SoundBank, left-bank, bank-left, refuse, bank-answer}
+use Rattle.model.proofs.Calls.{SoundBank, left-bank, bank-left, refuse, bank-answer, refuseAsked}
 use Rattle.model.proofs.Made.{bank-made, sound-bank-made, bank-hears}
 
 -- ---- one channel, no gate and no store of R-6
@@ -51,25 +52,29 @@ abbrev hops : ℕ → Float → Float → List Hop
 hops zero x y = one y ∷ []
 hops (suc m) x y = one x ∷ hops m x y
 
+-- the technician's
+abbrev plainly : Hop → Call
+plainly h = askedBy technician (bank false h)
+
 abbrev calls : ℕ → Float → Float → List Call
-calls zero x y = bank false (one y) ∷ []
-calls (suc m) x y = bank false (one x) ∷ calls m x y
+calls zero x y = plainly (one y) ∷ []
+calls (suc m) x y = plainly (one x) ∷ calls m x y
 
 -- each is accepted, since a block of one channel takes any dB
 one-clear : (x : Float) → garbled 1 (x ∷ []) ≡ false
 unfolding garbled anyBelow
 one-clear x = and-false-r (isNan x) false refl
 
-one-taken : (s : Stores) → SoundBank s → bankIn s .n ≡ 1 → (x : Float) → answer s (bank false (one x)) ≡ 0
-unfolding refuse
+one-taken : (s : Stores) → SoundBank s → bankIn s .n ≡ 1 → (x : Float) → answer s (plainly (one x)) ≡ 0
+unfolding step asRole refuseAsked
 one-taken s v n x = bank-answer s v (one x) 0 ∙ by-test (eqb (bankIn s .phase) 0) (λ t. rw (n, t, one-clear x)) (λ t. rw (n, t))
 
 calls-taken : (m : ℕ) (x y : Float) (s : Stores) → SoundBank s → bankIn s .n ≡ 1 → bankHops s (calls m x y) ≡ hops m x y
 calls-taken zero x y s v n = ap (λ (r : ℕ). bankHop r (bank false (one y)) ++ []) (one-taken s v n y)
 calls-taken (suc m) x y s v n =
-    let c : Call = bank false (one x) in
-    let later : bankIn (left s c) .n ≡ 1 = ap (λ (b : FloorBank). b .n) (left-bank s v c .bank-is) ∙ n-run (bankHop (answer s c) (arguments c)) (bankIn s) ∙ n in
-    ap (λ (r : ℕ). bankHop r (arguments c) ++ bankHops (left s c) (calls m x y)) (one-taken s v n x)
+    let c = plainly (one x) in
+    let later : bankIn (left s c) .n ≡ 1 = ap (λ (b : FloorBank). b .n) (left-bank s v c .bank-is) ∙ n-run (bankHop (answer s c) (with (c .asked))) (bankIn s) ∙ n in
+    ap (λ (r : ℕ). bankHop r (with (c .asked)) ++ bankHops (left s c) (calls m x y)) (one-taken s v n x)
     ∙ ap (λ (hs : List Hop). one x ∷ hs) (calls-taken m x y (left s c) (bank-left s c v) later)
 
 -- what they leave

@@ -1,5 +1,4 @@
--- What making leaves where it is not refused: the stores of a fresh bank, a fresh gate, a fresh store of R-6 and a fresh map of R-12, all sound.
--- Assumes nothing.
+-- What making leaves where it is not refused: the stores of a fresh bank, a fresh gate, a fresh store of R-6 and a fresh map, all sound. Assumes nothing.
 use mathlib.Core.Path.{_≡_, refl, sym, ap, ap₂, _∙_, subst}
 use mathlib.Core.Bool.{true, not, _&&_, _||_}
 use mathlib.Core.Logic.{_⊎_, inl, inr}
@@ -52,15 +51,15 @@ stored-absent (negsuc x) h = clash (sym h)
 stored-early : (x : ℤ) → (absent x || goodLevel x) ≡ true → (stored x ≡ 65535) ⊎ (stored x ≤ 1600)
 stored-early x h = by-test (absent x) (λ t. inl (stored-absent x t)) (λ t. inr (leb-true (stored x) 1600 (rw t at h)))
 
-record Taken (k : Making) : Type 0 where
-  low : 1 ≤ k .gate-n
-  high : k .gate-n ≤ 512
-  on : stored (k .on) ≤ 1600
-  off : stored (k .off) ≤ 1600
-  early : (stored (k .early) ≡ 65535) ⊎ (stored (k .early) ≤ 1600)
-  lengths : goodLengths (k .lengths) ≡ true
+pub record Taken (k : Making) : Type 0 where
+  pub low : 1 ≤ k .gate-n
+  pub high : k .gate-n ≤ 512
+  pub on : stored (k .on) ≤ 1600
+  pub off : stored (k .off) ≤ 1600
+  pub early : (stored (k .early) ≡ 65535) ⊎ (stored (k .early) ≤ 1600)
+  pub lengths : goodLengths (k .lengths) ≡ true
 
-taken : (k : Making) (uLen fLen : ℕ) → gateMakeRefusal uLen fLen (k .gate-n) (k .on) (k .off) (k .early) (k .lengths) ≡ 0 → Taken k
+pub taken : (k : Making) (uLen fLen : ℕ) → gateMakeRefusal uLen fLen (k .gate-n) (k .on) (k .off) (k .early) (k .lengths) ≡ 0 → Taken k
 unfolding gateMakeRefusal
 taken k uLen fLen e =
     let p = passed (not (within 1 512 (k .gate-n))) 1 _ (omega arith) e in

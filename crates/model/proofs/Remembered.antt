@@ -17,10 +17,12 @@ use Rattle.model.specs.GateCalls.{GateHop, gateRefusal, pairRefusal, gat
 use Rattle.model.specs.GoodGate.{GoodGate}
 use Rattle.model.specs.Map.{mapLong}
 use Rattle.model.specs.MapCalls.{mapRefusal}
-use Rattle.model.specs.Demand3.{Call, bank, gate, hold, write, Stores, Lent, step, answer, left, arguments, gateHop, bankIn, Making, made, Made}
+use Rattle.model.specs.Demand3.{Asked, Call, bank, gate, hold, write, Stores, Lent, AskedWith, does, step, answer, left, with, exported, marksBefore, gateHop, bankIn, Making, made, Made}
+use Rattle.roles.specs.Rights.{asRole}
+use Rattle.roles.proofs.Roles.{both-by-role}
 use Rattle.model.specs.Sets.{gateIn, Sound}
-use Rattle.model.specs.Anew.{riseBytesAnew, marksAnew, gateUpdateAnew, gateHoldAnew, leftAnew, seenAnew, allSeenAnew}
-use Rattle.model.specs.Remembered.{PairsTrue, StayTrue, seen, allSeen, AsAnew}
+use Rattle.model.specs.Anew.{riseBytesAnew, marksAnew, gateUpdateAnew, gateHoldAnew, doneAnew, leftAnew, shownAnew, seenAnew, allSeenAnew}
+use Rattle.model.specs.Remembered.{PairsTrue, StayTrue, shown, seen, allSeen, AsAnew}
 use Rattle.model.proofs.GoodGates.{n-of, gate-back, gate-passes}
 use Rattle.model.proofs.FreshGates.{bare, good-gate-step}
 use Rattle.model.proofs.Pairs.{true-fresh, update-anew, hold-anew, bare-step, bare-update, bare-hold, bare-drops, bare-rises}
@@ -101,13 +103,13 @@ same-bank : (s t : Stores) → Beside s t → bankIn s ≡ bankIn t
 same-bank s t w = ap₂ bankOf (w .bu) (w .bf)
 
 -- an answer with the marks
-abbrev shown : ℕ → List ℕ × List ℕ → ℕ × List ℕ × List ℕ
-shown r m = (r, m .0, m .1)
+abbrev marked : ℕ → List ℕ × List ℕ → ℕ × List ℕ × List ℕ
+marked r m = (r, m .0, m .1)
 
-same-seen : (s t : Stores) → Beside s t → (c : Call) → seen s c ≡ seenAnew t c
-unfolding seen seenAnew gateUpdate gateUpdateAnew gateHold gateHoldAnew
-same-seen s t w (bank c h) = λ i. (updateIf c (w .bu i) (w .bf i) (w .wu i) (w .wf i) h .0, [], [])
-same-seen s t w (gate c h rise drop) =
+same-shown : (s t : Stores) → Beside s t → (a : Asked) → shown s a ≡ shownAnew t a
+unfolding shown shownAnew gateUpdate gateUpdateAnew gateHold gateHoldAnew
+same-shown s t w (bank c h) = λ i. (updateIf c (w .bu i) (w .bf i) (w .wu i) (w .wf i) h .0, [], [])
+same-shown s t w (gate c h rise drop) =
     let G = updateStep (gateIn s) (bankIn s) (h .db) (h .power) in
     let H = gateStep (gateIn t) (h .db) (h .power) in
     let r = gateUpdateRefusal (s .bu) (s .bf) (s .gu) (s .gf) (length (h .db)) (length (h .power)) (length rise) (length drop) in
@@ -116,35 +118,44 @@ same-seen s t w (gate c h rise drop) =
     ap₂ (λ (u : List ℕ) (f : List Float). gateUpdateRefusal u f (s .gu) (s .gf) (length (h .db)) (length (h .power)) (length rise) (length drop)) (w .bu) (w .bf)
     ∙ update-refusals (t .bu) (t .bf) (s .gu) (t .gu) (s .gf) (t .gf) (w .one .gate-passes) (w .passes) (same-n s t w) _ _ _ _ in
     ap (λ (a : ℕ × List ℕ × List Float × List ℕ × List ℕ). (a .0, a .3, a .4)) (update-same (s .bu) (s .bf) (s .gu) (s .gf) (s .map) (w .one .map-passes) c h rise drop)
-    ∙ ap (λ (x : ℕ). shown x (marksOf r G (bankIn s) rise drop)) (gate-answer r G (s .gu) (s .gf))
-    ∙ ap (shown r)
+    ∙ ap (λ (x : ℕ). marked x (marksOf r G (bankIn s) rise drop)) (gate-answer r G (s .gu) (s .gf))
+    ∙ ap (marked r)
     (marks-same r G H (bankIn s) rise drop (update-rises (gateIn s) (gateIn t) (bankIn s) (w .true-pairs) (w .gates) (h .db) (h .power))
     (update-drops (gateIn s) (gateIn t) (bankIn s) (w .true-pairs) (w .gates) (h .db) (h .power)))
-    ∙ ap₂ (λ (x : ℕ) (b : FloorBank). shown x (marksAnew x H b rise drop)) e (same-bank s t w)
-    ∙ sym (ap (λ (x : ℕ). shown x (marksAnew r′ H (bankIn t) rise drop)) (gate-answer r′ H (t .gu) (t .gf)))
-same-seen s t w (hold c rise drop) =
+    ∙ ap₂ (λ (x : ℕ) (b : FloorBank). marked x (marksAnew x H b rise drop)) e (same-bank s t w)
+    ∙ sym (ap (λ (x : ℕ). marked x (marksAnew r′ H (bankIn t) rise drop)) (gate-answer r′ H (t .gu) (t .gf)))
+same-shown s t w (hold c rise drop) =
     let r = holdRefusal (s .bu) (s .bf) (s .gu) (s .gf) (length rise) (length drop) in
     let r′ = holdRefusal (t .bu) (t .bf) (t .gu) (t .gf) (length rise) (length drop) in
     let e : r ≡ r′ =
     ap₂ (λ (u : List ℕ) (f : List Float). holdRefusal u f (s .gu) (s .gf) (length rise) (length drop)) (w .bu) (w .bf)
     ∙ hold-refusals (t .bu) (t .bf) (s .gu) (t .gu) (s .gf) (t .gf) (w .one .gate-passes) (w .passes) (same-n s t w) _ _ in
     ap (λ (a : ℕ × List Float × List ℕ × List ℕ). (a .0, a .2, a .3)) (hold-same (s .bu) (s .bf) (s .gu) (s .gf) (s .map) (w .one .map-passes) c rise drop)
-    ∙ ap (shown r)
+    ∙ ap (marked r)
     (marks-same r (holdStep (gateIn s) (bankIn s)) (gateIn t) (bankIn s) rise drop (hold-rises (gateIn s) (gateIn t) (bankIn s) (w .true-pairs) (w .gates))
     (hold-drops (gateIn s) (gateIn t) (bankIn s) (w .true-pairs) (w .gates)))
-    ∙ ap₂ (λ (x : ℕ) (b : FloorBank). shown x (marksAnew x (gateIn t) b rise drop)) e (same-bank s t w)
-same-seen s t w (write i v) =
+    ∙ ap₂ (λ (x : ℕ) (b : FloorBank). marked x (marksAnew x (gateIn t) b rise drop)) e (same-bank s t w)
+same-shown s t w (write i v) =
     ap (λ (x : ℕ). (x, [], []))
     (write-answer (s .gu) (s .gf) (s .map) (w .one .gate-passes) (w .one .map-passes) i v
     ∙ ap (λ (n : ℕ). first (not (ltb i (mapLong n))) 15 0) (same-n s t w)
     ∙ sym (write-answer (t .gu) (t .gf) (t .map) (w .passes) (w .map-passes) i v))
 
+same-seen : (s t : Stores) → Beside s t → (c : Call) → seen s c ≡ seenAnew t c
+unfolding seen seenAnew
+same-seen s t w c =
+    both-by-role (exported (with (c .asked))) (c .role) (λ (x y : ℕ × List ℕ × List ℕ). x ≡ y)
+    (λ r. marked r (marksBefore (c .asked))) (shown s (c .asked)) (λ r. marked r (marksBefore (c .asked))) (shownAnew t (c .asked))
+    (same-shown s t w (c .asked)) refl
+
 -- ---- what is left
 
-record LeftAnew (t : Stores) (c : Call) : Type 0 where
-  passes : gateRefusal (leftAnew t c .gu) (leftAnew t c .gf) ≡ 0
-  good : GoodGate (gateIn (leftAnew t c))
-  gate-is : bare (gateIn (leftAnew t c)) ≡ runGate (bare (gateIn t)) (gateHop (seenAnew t c .0) (arguments c))
+-- of what is asked, a, with answer r and stores u
+record LeftAnew (t : Stores) (a : AskedWith) (r : ℕ) (u : Stores) : Type 0 where
+  passes : gateRefusal (u .gu) (u .gf) ≡ 0
+  good : GoodGate (gateIn u)
+  gate-is : bare (gateIn u) ≡ runGate (bare (gateIn t)) (gateHop r a)
+  map-stays : u .map ≡ t .map
 
 leaves-anew : (u : List ℕ) (f : List Float) (c : Bool) (h : GateHop) (i j : ℕ) → gateRefusal u f ≡ 0 → GoodGate (gateOf u f) → (r : ℕ)
     → let G = gateStep (gateOf u f) (h .db) (h .power) in
@@ -169,55 +180,72 @@ no-hop-write : (r i v : ℕ) → gateHop r (write i v) ≡ []
 no-hop-write zero i v = refl
 no-hop-write (suc r) i v = refl
 
-left-anew : (t : Stores) → gateRefusal (t .gu) (t .gf) ≡ 0 → GoodGate (gateIn t) → (c : Call) → LeftAnew t c
-unfolding leftAnew seenAnew gateUpdateAnew
-left-anew t p g (bank c h) = record { passes = p; good = g; gate-is = sym (ap (runGate (bare (gateIn t))) (no-hop (seenAnew t (bank c h) .0) c h)) }
-left-anew t p g (gate c h rise drop) =
+done-anew : (t : Stores) → gateRefusal (t .gu) (t .gf) ≡ 0 → GoodGate (gateIn t) → (a : Asked) → LeftAnew t (with a) (shownAnew t a .0) (doneAnew t a)
+unfolding doneAnew shownAnew gateUpdateAnew
+done-anew t p g (bank c h) =
+    record { passes = p; good = g; gate-is = sym (ap (runGate (bare (gateIn t))) (no-hop (shownAnew t (bank c h) .0) c h)); map-stays = refl }
+done-anew t p g (gate c h rise drop) =
     let l = leaves-anew (t .gu) (t .gf) c h (length rise) (length drop) p g
     (gateUpdateRefusal (t .bu) (t .bf) (t .gu) (t .gf) (length (h .db)) (length (h .power)) (length rise) (length drop)) in
-    record { passes = l .0; good = l .1; gate-is = l .2 }
-left-anew t p g (hold c rise drop) =
+    record { passes = l .0; good = l .1; gate-is = l .2; map-stays = refl }
+done-anew t p g (hold c rise drop) =
     record {
       passes = p;
       good = g;
-      gate-is = sym (ap (runGate (bare (gateIn t))) (no-hop-held (seenAnew t (hold c rise drop) .0) c (length rise) (length drop)));
+      gate-is = sym (ap (runGate (bare (gateIn t))) (no-hop-held (shownAnew t (hold c rise drop) .0) c (length rise) (length drop)));
+      map-stays = refl;
     }
-left-anew t p g (write i v) =
-    record { passes = p; good = g; gate-is = sym (ap (runGate (bare (gateIn t))) (no-hop-write (seenAnew t (write i v) .0) i v)) }
+done-anew t p g (write i v) =
+    record { passes = p; good = g; gate-is = sym (ap (runGate (bare (gateIn t))) (no-hop-write (shownAnew t (write i v) .0) i v)); map-stays = refl }
+
+left-anew : (t : Stores) → gateRefusal (t .gu) (t .gf) ≡ 0 → GoodGate (gateIn t) → (c : Call)
+    → LeftAnew t (with (c .asked)) (seenAnew t c .0) (leftAnew t c)
+unfolding leftAnew seenAnew
+left-anew t p g c =
+    both-by-role (exported (with (c .asked))) (c .role) (λ (x : ℕ × List ℕ × List ℕ) (u : Stores). LeftAnew t (with (c .asked)) (x .0) u)
+    (λ r. marked r (marksBefore (c .asked))) (shownAnew t (c .asked)) (λ _. t) (doneAnew t (c .asked))
+    (done-anew t p g (c .asked)) (record { passes = p; good = g; gate-is = refl; map-stays = refl })
 
 -- which keeps its n and its map
-n-anew : (t : Stores) (c : Call) → LeftAnew t c → getD (leftAnew t c .gu) 0 0 ≡ getD (t .gu) 0 0
+n-anew : (t : Stores) (c : Call) → LeftAnew t (with (c .asked)) (seenAnew t c .0) (leftAnew t c) → getD (leftAnew t c .gu) 0 0 ≡ getD (t .gu) 0 0
 n-anew t c l =
     sym (n-of (leftAnew t c .gu) (leftAnew t c .gf))
     ∙ ap (λ (g : Gate). g .n) (l .gate-is)
-    ∙ make-run (gateHop (seenAnew t c .0) (arguments c)) (bare (gateIn t)) .n
+    ∙ make-run (gateHop (seenAnew t c .0) (with (c .asked))) (bare (gateIn t)) .n
     ∙ n-of (t .gu) (t .gf)
 
-map-anew : (t : Stores) (c : Call) → leftAnew t c .map ≡ t .map
-unfolding leftAnew
-map-anew t (bank c h) = refl
-map-anew t (gate c h rise drop) = refl
-map-anew t (hold c rise drop) = refl
-map-anew t (write i v) = refl
-
 -- both leave the same bank, and the same store of R-6 beside it
-bank-left : (s t : Stores) → Beside s t → (c : Call)
-    → (left s c .bu ≡ leftAnew t c .bu) × (left s c .bf ≡ leftAnew t c .bf) × (left s c .wu ≡ leftAnew t c .wu) × (left s c .wf ≡ leftAnew t c .wf)
-unfolding step leftAnew
-bank-left s t w (bank c h) =
+abbrev SameBanks : Stores → Stores → Type 0
+SameBanks s t = (s .bu ≡ t .bu) × (s .bf ≡ t .bf) × (s .wu ≡ t .wu) × (s .wf ≡ t .wf)
+
+bank-done : (s t : Stores) → Beside s t → (a : Asked) → SameBanks (does s a .1) (doneAnew t a)
+unfolding does doneAnew
+bank-done s t w (bank c h) =
     let e : updateIf c (s .bu) (s .bf) (s .wu) (s .wf) h ≡ updateIf c (t .bu) (t .bf) (t .wu) (t .wf) h =
     λ i. updateIf c (w .bu i) (w .bf i) (w .wu i) (w .wf i) h in
     (ap (λ (a : Answered). a .1) e, ap (λ (a : Answered). a .2) e, ap (λ (a : Answered). a .3) e, ap (λ (a : Answered). a .4) e)
-bank-left s t w (gate c h rise drop) = (w .bu, w .bf, w .wu, w .wf)
-bank-left s t w (hold c rise drop) = (w .bu, w .bf, w .wu, w .wf)
-bank-left s t w (write i v) = (w .bu, w .bf, w .wu, w .wf)
+bank-done s t w (gate c h rise drop) = (w .bu, w .bf, w .wu, w .wf)
+bank-done s t w (hold c rise drop) = (w .bu, w .bf, w .wu, w .wf)
+bank-done s t w (write i v) = (w .bu, w .bf, w .wu, w .wf)
+
+bank-left : (s t : Stores) → Beside s t → (c : Call) → SameBanks (left s c) (leftAnew t c)
+unfolding step leftAnew
+bank-left s t w c =
+    both-by-role (exported (with (c .asked))) (c .role) (λ (x : ℕ × Stores) (u : Stores). SameBanks (x .1) u)
+    (λ r. (r, s)) (does s (c .asked)) (λ _. t) (doneAnew t (c .asked)) (bank-done s t w (c .asked)) (w .bu, w .bf, w .wu, w .wf)
+
+done-answered : (s : Stores) (a : Asked) → does s a .0 ≡ shown s a .0
+unfolding does shown
+done-answered s (bank c h) = refl
+done-answered s (gate c h rise drop) = refl
+done-answered s (hold c rise drop) = refl
+done-answered s (write i v) = refl
 
 answered : (s : Stores) (c : Call) → answer s c ≡ seen s c .0
 unfolding step seen
-answered s (bank c h) = refl
-answered s (gate c h rise drop) = refl
-answered s (hold c rise drop) = refl
-answered s (write i v) = refl
+answered s c =
+    both-by-role (exported (with (c .asked))) (c .role) (λ (x : ℕ × Stores) (y : ℕ × List ℕ × List ℕ). x .0 ≡ y .0)
+    (λ r. (r, s)) (does s (c .asked)) (λ r. marked r (marksBefore (c .asked))) (shown s (c .asked)) (done-answered s (c .asked)) refl
 
 beside-left : (s t : Stores) → Beside s t → (c : Call) → Beside (left s c) (leftAnew t c)
 beside-left s t w c =
@@ -233,8 +261,8 @@ beside-left s t w c =
       wf = b .3;
       passes = l .passes;
       good = l .good;
-      map-passes = ap₂ mapRefusal (n-anew t c l) (map-anew t c) ∙ w .map-passes;
-      gates = bare-left s c (w .one) ∙ (λ i. runGate (w .gates i) (gateHop (a i) (arguments c))) ∙ sym (l .gate-is);
+      map-passes = ap₂ mapRefusal (n-anew t c l) (l .map-stays) ∙ w .map-passes;
+      gates = bare-left s c (w .one) ∙ (λ i. runGate (w .gates i) (gateHop (a i) (with (c .asked)))) ∙ sym (l .gate-is);
     }
 
 all-same : (cs : List Call) (s t : Stores) → Beside s t → allSeen s cs ≡ allSeenAnew t cs
@@ -245,4 +273,15 @@ pub as-anew : AsAnew
 as-anew k p d cs =
     let v = sound-made k p d in
     all-same cs (made k p) (made k p)
-    (record { one = v; true-pairs = true-made k p d; bu = refl; bf = refl; wu = refl; wf = refl; passes = v .gate-passes; good = v .gate-good; gates = refl; map-passes = v .map-passes })
+    (record {
+      one = v;
+      true-pairs = true-made k p d;
+      bu = refl;
+      bf = refl;
+      wu = refl;
+      wf = refl;
+      passes = v .gate-passes;
+      good = v .gate-good;
+      gates = refl;
+      map-passes = v .map-passes;
+    })

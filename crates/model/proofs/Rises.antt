@@ -104,7 +104,7 @@ fresh-n : (s : Settings) (hs : List GateHop) → runGate (bare (freshGate s)) hs
 unfolding freshGate
 fresh-n s hs = make-run hs (bare (freshGate s)) .n
 
-fresh-looks : (s : Settings) (hs : List GateHop)
+pub fresh-looks : (s : Settings) (hs : List GateHop)
     → runGate (bare (freshGate s)) hs .looks ≡ map (λ (m : ℕ). runLook (s .n) (freshLook (s .n) m) hs) (distinct [] (s .lengths))
 unfolding freshGate
 fresh-looks s hs = looks-run hs (bare (freshGate s)) ∙ map-map (λ (l : PowerLooks). runLook (s .n) l hs) (freshLook (s .n)) (distinct [] (s .lengths))

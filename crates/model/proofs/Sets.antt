@@ -19,21 +19,22 @@ use Rattle.model.specs.Refusals.{makeRefusal, garbled}
 use Rattle.model.specs.Calls.{bankNew}
 use Rattle.model.specs.Gate.{Gate, distinct, freshGate}
 use Rattle.model.specs.GateCalls.{GateHop, goodLengths, stored, floatsFor, gateMakeRefusal, settingsOf, gateNew}
-use Rattle.model.specs.Demand3.{Call, bank, gate, Stores, Lent, answer, left, arguments, bankHop, gateHop, bankHops, gateHops, loud, firstSlowLoud, bankIn, Making, newBank, newGate, newWorst, made, Made, Enough}
+use Rattle.model.specs.Demand3.{Call, askedBy, bank, gate, Stores, Lent, answer, left, with, bankHop, gateHop, bankHops, gateHops, loud, firstSlowLoud, bankIn, Making, newBank, newGate, newWorst, made, Made, Enough}
+use Rattle.model.specs.Map.{mapLong}
 use Rattle.model.specs.Worst.{worstFLen}
 use Rattle.model.specs.WorstCalls.{worstMakeRefusal, worstNew}
-use Rattle.model.specs.Map.{mapLong}
+use Rattle.roles.specs.Rights.{technician, asRole}
 use Rattle.model.specs.Sets.{gateIn, Sound, StaySound, CanBeMet}
 use Rattle.model.proofs.FreshGates.{bare}
 use Rattle.model.proofs.SettledFloors.{n-run}
 use Rattle.model.proofs.Rises.{make-run}
-use Rattle.model.proofs.Calls.{left-is, sound-left, bare-left, sound-run, refuse, answer-is}
+use Rattle.model.proofs.Calls.{sound-bank, left-bank, sound-left, bare-left, sound-run, refuse, refuseAsked, answer-is}
 use Rattle.model.proofs.Made.{sound-made, bank-made, gate-made, can-have-map}
 
 pub stay-sound : StaySound
 stay-sound k p d cs = sound-run cs (made k p) (sound-made k p d)
 
--- ---- two channels, one length of 1, levels 0, early absent; W of 3; each bank update carries the store of R-6, each gate update the map of R-12
+-- ---- two channels, one length of 1, levels 0, early absent; W of 3; each bank update carries R-6's store and each gate update the map
 
 two : Making
 two = record { n = 2; gate-n = 2; on = pos 0; off = pos 0; early = pos 65535; lengths = 1 ∷ [] }
@@ -67,10 +68,10 @@ abbrev gateZeros : GateHop
 gateZeros = record { db = f0 ∷ f0 ∷ []; power = f0 ∷ f0 ∷ [] }
 
 abbrev bankCall : Call
-bankCall = bank true zeros
+bankCall = askedBy technician (bank true zeros)
 
 abbrev gateCall : Call
-gateCall = gate true gateZeros (0 ∷ 0 ∷ []) (0 ∷ 0 ∷ [])
+gateCall = askedBy technician (gate true gateZeros (0 ∷ 0 ∷ []) (0 ∷ 0 ∷ []))
 
 abbrev calls : ℕ → ℕ → List Call
 calls i j = replicate i bankCall ++ replicate j gateCall
@@ -92,38 +93,38 @@ record Two (s : Stores) : Type 0 where
 
 two-left : (s : Stores) → Two s → (c : Call) → Two (left s c)
 two-left s t c =
-    let l = left-is s (t .sound) c in
+    let l = left-bank s (sound-bank s (t .sound)) c in
     record {
       sound = sound-left s c (t .sound);
-      n = ap (λ (b : FloorBank). b .n) (l .bank-is) ∙ n-run (bankHop (answer s c) (arguments c)) (bankIn s) ∙ t .n;
-      gate-n = ap (λ (g : Gate). g .n) (bare-left s c (t .sound)) ∙ make-run (gateHop (answer s c) (arguments c)) (bare (gateIn s)) .n ∙ t .gate-n;
+      n = ap (λ (b : FloorBank). b .n) (l .bank-is) ∙ n-run (bankHop (answer s c) (with (c .asked))) (bankIn s) ∙ t .n;
+      gate-n = ap (λ (g : Gate). g .n) (bare-left s c (t .sound)) ∙ make-run (gateHop (answer s c) (with (c .asked))) (bare (gateIn s)) .n ∙ t .gate-n;
     }
 
 bank-taken : (s : Stores) → Two s → answer s bankCall ≡ 0
-unfolding refuse
+unfolding refuse refuseAsked asRole
 bank-taken s t = answer-is s (t .sound) bankCall ∙ by-test (eqb (bankIn s .phase) 0) (λ q. rw (t .n, q, not-garbled)) (λ q. rw (t .n, q))
 
 gate-taken : (s : Stores) → Two s → answer s gateCall ≡ 0
-unfolding refuse
+unfolding refuse refuseAsked asRole
 gate-taken s t = answer-is s (t .sound) gateCall ∙ rw (t .n, t .gate-n)
 
 gates-taken : (j : ℕ) (s : Stores) → Two s → length (gateHops s (replicate j gateCall)) ≡ j
 gates-taken zero s t = refl
 gates-taken (suc j) s t =
-    ap (λ (r : ℕ). length (gateHop r (arguments gateCall) ++ gateHops (left s gateCall) (replicate j gateCall))) (gate-taken s t)
+    ap (λ (r : ℕ). length (gateHop r (with (gateCall .asked)) ++ gateHops (left s gateCall) (replicate j gateCall))) (gate-taken s t)
     ∙ ap suc (gates-taken j (left s gateCall) (two-left s t gateCall))
 
 both-taken : (i j : ℕ) (s : Stores) → Two s → (i ≤ length (bankHops s (calls i j))) × (j ≤ length (gateHops s (calls i j)))
 both-taken zero j s t = (omega arith, omega (arith, gates-taken j s t))
 both-taken (suc i) j s t =
     let h = both-taken i j (left s bankCall) (two-left s t bankCall) in
-    let b = ap (λ (r : ℕ). length (bankHop r (arguments bankCall) ++ bankHops (left s bankCall) (calls i j))) (bank-taken s t) in
-    let g = ap (λ (r : ℕ). length (gateHop r (arguments bankCall) ++ gateHops (left s bankCall) (calls i j))) (bank-taken s t) in
+    let b = ap (λ (r : ℕ). length (bankHop r (with (bankCall .asked)) ++ bankHops (left s bankCall) (calls i j))) (bank-taken s t) in
+    let g = ap (λ (r : ℕ). length (gateHop r (with (bankCall .asked)) ++ gateHops (left s bankCall) (calls i j))) (bank-taken s t) in
     (omega (arith, h .0, b), omega (arith, h .1, g))
 
 first-loud : (i j : ℕ) (s : Stores) → Two s → firstSlowLoud 2 0 (bankHops s (calls (suc i) j)) ≡ true
 first-loud i j s t =
-    ap (λ (r : ℕ). firstSlowLoud 2 0 (bankHop r (arguments bankCall) ++ bankHops (left s bankCall) (calls i j))) (bank-taken s t) ∙ zeros-loud
+    ap (λ (r : ℕ). firstSlowLoud 2 0 (bankHop r (with (bankCall .asked)) ++ bankHops (left s bankCall) (calls i j))) (bank-taken s t) ∙ zeros-loud
 
 two-fresh : Two (made two lent)
 two-fresh =

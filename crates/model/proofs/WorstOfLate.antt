@@ -1,7 +1,7 @@
 -- Lists of calls that carry the store of R-6, proved: what is read after them, that the stores stay sound, and that bank and gate do not
 -- notice. Assumes nothing.
 use mathlib.Core.Path.{_≡_, refl, sym, ap, ap₂, subst, _∙_}
-use mathlib.Core.Bool.{Bool, true, false, _&&_}
+use mathlib.Core.Bool.{Bool, true, false, cond, _&&_}
 use mathlib.Core.List.{List, [], _∷_, _++_, map, append-assoc, append-nil, map-append}
 use Prim.Native.Nat.{ℕ, zero, suc, _<_}
 use native.Mathlib.Omega.{arith}
@@ -17,13 +17,15 @@ use Rattle.model.specs.Readings.{effectiveAt}
 use Rattle.model.specs.MapCalls.{mapWrite, gateUpdateIf, gateHoldIf}
 use Rattle.model.specs.Worst.{Worst, freshWorst, ringOf, worstOf, floorsTaken, takenAt, worstStep, inTurn, worstAt, highest, latest}
 use Rattle.model.specs.WorstCalls.{besideRefusal, worstReadRefusal, updateIf, worstReadingOf, worstReading}
-use Rattle.model.specs.Demand3.{Call, bank, gate, hold, write, Stores, step, answer, left, arguments, leftBy, answers, bankHop, bankIn, Making, Lent, made}
+use Rattle.model.specs.Demand3.{Asked, AskedWith, with, exported, Call, bank, gate, hold, write, Stores, does, step, answer, left, leftBy, answers, bankHop, bankIn, Making, Lent, made}
 use Rattle.model.specs.Sets.{worstIn}
-use Rattle.model.specs.WorstOfLate.{carries, plain, counts, slowBank, slowBanks, floorsIn, Fresh, WorstIs, WorstSound, SameBut, Unnoticed}
+use Rattle.model.specs.WorstOfLate.{carries, askedPlain, plain, counts, slowBank, slowBanks, floorsIn, Fresh, WorstIs, WorstSound, SameBut, Unnoticed}
 use Rattle.model.proofs.Queue.{newest-all}
 use Rattle.model.proofs.WorstTurns.{turn-taken, latest-on, map-latest}
 use Rattle.model.proofs.SettledFloors.{runBank}
 use Rattle.model.proofs.Carrying.{Triple, worstAfter, span-worst-after, bank-same}
+use Rattle.roles.specs.Rights.{may, asRole}
+use Rattle.roles.proofs.Roles.{either}
 use Rattle.model.proofs.Calls.{SoundBank, SoundWorst, left-bank, left-worst, bank-left, worst-left, bank-n-left, worst-n-left}
 use Rattle.model.proofs.Made.{bank-made, sound-bank-made, store-made, sound-worst-made}
 
@@ -61,31 +63,50 @@ module _ (n W : ℕ) (s t : Stores) (bs : List FloorBank) (q : Kept n W s t bs) 
       bank-same (s .bu) (s .bf) (s .wu) (s .wf) h c (q .bank .bank-passes) (q .worst .worst-passes) equal
       ∙ ap₂ (λ (u : List ℕ) (f : List Float). bankUpdate u f h) (q .same .bu) (q .same .bf)
 
-  step-same : (c : Call) → (answer s c ≡ answer t (plain c)) × SameBut (left s c) (left t (plain c))
-  unfolding step
-  step-same (bank c h) =
+  abbrev Alike : ℕ × Stores → ℕ × Stores → Type 0
+  Alike x y = (x .0 ≡ y .0) × SameBut (x .1) (y .1)
+
+  does-same : (a : Asked) → Alike (does s a) (does t (askedPlain a))
+  unfolding does
+  does-same (bank c h) =
       let e = update-same c h in
       let m = q .same in
       (ap (λ (a : Triple). a .0) e, record { bu = ap (λ (a : Triple). a .1) e; bf = ap (λ (a : Triple). a .2) e; gu = m .gu; gf = m .gf; map = m .map })
-  step-same (gate c h rise drop) =
+  does-same (gate c h rise drop) =
       let m = q .same in
       let e : gateUpdateIf c (s .bu) (s .bf) (s .gu) (s .gf) (s .map) h rise drop ≡ gateUpdateIf c (t .bu) (t .bf) (t .gu) (t .gf) (t .map) h rise drop =
       λ i. gateUpdateIf c (m .bu i) (m .bf i) (m .gu i) (m .gf i) (m .map i) h rise drop in
       (λ i. e i .0, record { bu = m .bu; bf = m .bf; gu = λ i. e i .1; gf = λ i. e i .2; map = λ i. e i .3 })
-  step-same (hold c rise drop) =
+  does-same (hold c rise drop) =
       let m = q .same in
       let e : gateHoldIf c (s .bu) (s .bf) (s .gu) (s .gf) (s .map) rise drop ≡ gateHoldIf c (t .bu) (t .bf) (t .gu) (t .gf) (t .map) rise drop =
       λ i. gateHoldIf c (m .bu i) (m .bf i) (m .gu i) (m .gf i) (m .map i) rise drop in
       (λ i. e i .0, record { bu = m .bu; bf = m .bf; gu = m .gu; gf = λ i. e i .1; map = λ i. e i .2 })
-  step-same (write i v) =
+  does-same (write j x) =
       let m = q .same in
-      let e : mapWrite (s .gu) (s .gf) (s .map) i v ≡ mapWrite (t .gu) (t .gf) (t .map) i v = λ j. mapWrite (m .gu j) (m .gf j) (m .map j) i v in
-      (λ j. e j .0, record { bu = m .bu; bf = m .bf; gu = m .gu; gf = m .gf; map = λ j. e j .1 })
+      let e : mapWrite (s .gu) (s .gf) (s .map) j x ≡ mapWrite (t .gu) (t .gf) (t .map) j x = λ i. mapWrite (m .gu i) (m .gf i) (m .map i) j x in
+      (λ i. e i .0, record { bu = m .bu; bf = m .bf; gu = m .gu; gf = m .gf; map = λ i. e i .1 })
 
-  counts-at : (c : Call) (r p : ℕ) → answer s c ≡ r → bankIn s .phase ≡ p → counts t c ≡ (carries c && eqb r 0 && eqb p 0)
+  -- whether it carries the store changes no right
+  same-right : (a : Asked) (role : ℕ) → may (exported (with a)) role ≡ may (exported (with (askedPlain a))) role
+  same-right (bank true h) role = refl
+  same-right (bank false h) role = refl
+  same-right (gate c h rise drop) role = refl
+  same-right (hold c rise drop) role = refl
+  same-right (write i v) role = refl
+
+  step-same : (c : Call) → Alike (step s c) (step t (plain c))
+  unfolding step asRole
+  step-same c =
+      subst (λ (b : Bool). Alike (cond (may (exported (with (c .asked))) (c .role)) (does s (c .asked)) (16, s)) (cond b (does t (askedPlain (c .asked))) (16, t)))
+      (same-right (c .asked) (c .role))
+      (either (may (exported (with (c .asked))) (c .role)) Alike (does s (c .asked)) (16, s) (does t (askedPlain (c .asked))) (16, t)
+      (does-same (c .asked)) (refl, q .same))
+
+  counts-at : (c : Call) (r p : ℕ) → answer s c ≡ r → bankIn s .phase ≡ p → counts t c ≡ (carries (with (c .asked)) && eqb r 0 && eqb p 0)
   unfolding counts
   counts-at c r p er ep =
-      ap₂ (λ (r p : ℕ). carries c && eqb r 0 && eqb p 0) (sym (step-same c .0) ∙ er) (sym (ap (λ (b : FloorBank). b .phase) same-bank) ∙ ep)
+      ap₂ (λ (r p : ℕ). carries (with (c .asked)) && eqb r 0 && eqb p 0) (sym (step-same c .0) ∙ er) (sym (ap (λ (b : FloorBank). b .phase) same-bank) ∙ ep)
 
   module _ (k : ℕ) (l : k < n) where
     stays : held (worstIn s) k ≡ latest W (floorsIn k (bs ++ []))
@@ -100,9 +121,9 @@ module _ (n W : ℕ) (s t : Stores) (bs : List FloorBank) (q : Kept n W s t bs) 
         ∙ ap (latest W) (sym (map-append (λ (b : FloorBank). effectiveAt b k) bs (x ∷ [])))
 
     -- what the store holds after a call with answer r, found at phase p
-    turns : (c : Call) (r p : ℕ) → bankIn s .phase ≡ p
-        → held (worstAfter r (bankIn s) (worstIn s) (arguments c)) k
-        ≡ latest W (floorsIn k (bs ++ slowBank (carries c && eqb r 0 && eqb p 0) (runBank (bankIn s) (bankHop r (arguments c)))))
+    turns : (a : AskedWith) (r p : ℕ) → bankIn s .phase ≡ p
+        → held (worstAfter r (bankIn s) (worstIn s) a) k
+        ≡ latest W (floorsIn k (bs ++ slowBank (carries a && eqb r 0 && eqb p 0) (runBank (bankIn s) (bankHop r a))))
     unfolding worstStep
     turns (bank true h) zero zero e = ap (λ (p : ℕ). held (takenAt p (bankStep (bankIn s) h) (worstIn s)) k) e ∙ takes (bankStep (bankIn s) h)
     turns (bank true h) zero (suc p) e = ap (λ (p : ℕ). held (takenAt p (bankStep (bankIn s) h) (worstIn s)) k) e ∙ rw (not-nought p) stays
@@ -120,19 +141,19 @@ module _ (n W : ℕ) (s t : Stores) (bs : List FloorBank) (q : Kept n W s t bs) 
   kept c =
       let l = left-worst s (q .worst) c in
       let d = step-same c .1 in
-      let here : runBank (bankIn s) (bankHop (answer s c) (arguments c)) ≡ bankIn (left t (plain c)) =
+      let here : runBank (bankIn s) (bankHop (answer s c) (with (c .asked))) ≡ bankIn (left t (plain c)) =
       sym (left-bank s (q .bank) c .bank-is) ∙ ap₂ bankOf (d .bu) (d .bf) in
       record {
         bank = bank-left s c (q .bank);
         worst = worst-left s c (q .worst);
         bank-n = bank-n-left s c (q .bank) ∙ q .bank-n;
         worst-n = worst-n-left s c (q .worst) ∙ q .worst-n;
-        span = ap (λ (w : Worst). w .W) (l .worst-is) ∙ span-worst-after (answer s c) (bankIn s) (worstIn s) (arguments c) ∙ q .span;
+        span = ap (λ (w : Worst). w .W) (l .worst-is) ∙ span-worst-after (answer s c) (bankIn s) (worstIn s) (with (c .asked)) ∙ q .span;
         same = d;
         floors =
             λ k h.
             ap (λ (w : Worst). held w k) (l .worst-is)
-            ∙ turns k h c (answer s c) (bankIn s .phase) refl
+            ∙ turns k h (with (c .asked)) (answer s c) (bankIn s .phase) refl
             ∙ ap₂ (λ (v : Bool) (b : FloorBank). latest W (floorsIn k (bs ++ slowBank v b))) (sym (counts-at c (answer s c) (bankIn s .phase) refl refl)) here;
       }
 

@@ -17,7 +17,7 @@ use Rattle.model.specs.GateStores.{gateOf}
 use Rattle.model.specs.GateCalls.{GateHop, gateUpdateRefusal, holdRefusal, gateLeaves}
 use Rattle.model.specs.MapCalls.{mapWrite}
 use Rattle.model.specs.WorstCalls.{updateIf}
-use Rattle.model.specs.Demand3.{Call, bank, gate, hold, write, Stores}
+use Rattle.model.specs.Demand3.{Asked, Call, bank, gate, hold, write, Stores, unlessStopped, marksBefore}
 
 unfoldable pub windowRiseAnew : Gate → FloorBank → ℕ → Bool
 windowRiseAnew g b k = anyRises (g .n) (thresholdOf g (riseAt b k)) k (g .looks)
@@ -47,24 +47,30 @@ gateHoldAnew bu bf gu gf rise drop =
     (r, marks .0, marks .1)
 
 -- the stores that a call leaves
-unfoldable pub leftAnew : Stores → Call → Stores
-leftAnew s (bank c h) =
+unfoldable pub doneAnew : Stores → Asked → Stores
+doneAnew s (bank c h) =
     let a = updateIf c (s .bu) (s .bf) (s .wu) (s .wf) h in
     record { bu = a .1; bf = a .2; gu = s .gu; gf = s .gf; wu = a .3; wf = a .4; map = s .map }
-leftAnew s (gate c h rise drop) =
+doneAnew s (gate c h rise drop) =
     let a = gateUpdateAnew (s .bu) (s .bf) (s .gu) (s .gf) h rise drop in
     record { bu = s .bu; bf = s .bf; gu = a .1; gf = a .2; wu = s .wu; wf = s .wf; map = s .map }
-leftAnew s (hold c rise drop) = s
-leftAnew s (write i v) = s
+doneAnew s (hold c rise drop) = s
+doneAnew s (write i v) = s
+
+unfoldable pub leftAnew : Stores → Call → Stores
+leftAnew s c = unlessStopped c (λ _. s) (doneAnew s (c .asked))
 
 -- a call's answer, and what its output slices, rise and drop, hold after it
-unfoldable pub seenAnew : Stores → Call → ℕ × List ℕ × List ℕ
-seenAnew s (bank c h) = (updateIf c (s .bu) (s .bf) (s .wu) (s .wf) h .0, [], [])
-seenAnew s (gate c h rise drop) =
+unfoldable pub shownAnew : Stores → Asked → ℕ × List ℕ × List ℕ
+shownAnew s (bank c h) = (updateIf c (s .bu) (s .bf) (s .wu) (s .wf) h .0, [], [])
+shownAnew s (gate c h rise drop) =
     let a = gateUpdateAnew (s .bu) (s .bf) (s .gu) (s .gf) h rise drop in
     (a .0, a .3, a .4)
-seenAnew s (hold c rise drop) = gateHoldAnew (s .bu) (s .bf) (s .gu) (s .gf) rise drop
-seenAnew s (write i v) = (mapWrite (s .gu) (s .gf) (s .map) i v .0, [], [])
+shownAnew s (hold c rise drop) = gateHoldAnew (s .bu) (s .bf) (s .gu) (s .gf) rise drop
+shownAnew s (write i v) = (mapWrite (s .gu) (s .gf) (s .map) i v .0, [], [])
+
+unfoldable pub seenAnew : Stores → Call → ℕ × List ℕ × List ℕ
+seenAnew s c = unlessStopped c (λ r. (r, marksBefore (c .asked) .0, marksBefore (c .asked) .1)) (shownAnew s (c .asked))
 
 abbrev pub allSeenAnew : Stores → List Call → List (ℕ × List ℕ × List ℕ)
 allSeenAnew s [] = []

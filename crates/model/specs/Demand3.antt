@@ -1,7 +1,7 @@
 -- Demand 3, stated: "Nobody who can choose what a set heard earlier can change its floors afterwards, nor its rises without early rise."
 -- The words in quotes are the customer's and document 01's. The proof is `demand-3` in proofs/Demand3.antt.
 use mathlib.Core.Path.{_≡_}
-use mathlib.Core.Bool.{Bool, true, cond}
+use mathlib.Core.Bool.{Bool, true, false, cond}
 use mathlib.Core.List.{List, [], _∷_, _++_, map}
 use Prim.Native.Nat.{ℕ, zero, suc, _*_, _%_, _≤_, _<_}
 use lib.Dec.{eqb}
@@ -18,17 +18,61 @@ use Rattle.model.specs.Gate.{among}
 use Rattle.model.specs.GateCalls.{GateHop, absent, gateNew}
 use Rattle.model.specs.MapCalls.{mapNew, mapWrite, gateUpdateIf, gateHoldIf}
 use Rattle.model.specs.WorstCalls.{worstNew, updateIf}
+use Rattle.roles.specs.Rights.{Exported, bank-update, bank-update-worst, gate-update, gate-update-map, gate-hold, gate-hold-map, map-write, asRole}
 
 -- ---- calls
 
 -- "bank updates, gate updates and holds, refused ones included": slices of any lengths. The two lists of a gate update and of a hold are what
--- its output slices, rise and drop, held before. R-6: a bank update carries the store of the worst floor of late (true) or doesn't. R-12: gate
--- updates and holds carry the map (true) or don't; and writes to the map, of a value at an address
-pub data Call : Type 0 where
-  bank : Bool → Hop → Call
-  gate : Bool → GateHop → List ℕ → List ℕ → Call
-  hold : Bool → List ℕ → List ℕ → Call
-  write : ℕ → ℕ → Call
+-- its output slices, rise and drop, held before. R-12: they carry the map (true) or don't; and writes to the map, of a value at an address. R-6: a
+-- bank update carries the store of the worst floor of late (true) or doesn't
+pub data Asked : Type 0 where
+  bank : Bool → Hop → Asked
+  gate : Bool → GateHop → List ℕ → List ℕ → Asked
+  hold : Bool → List ℕ → List ℕ → Asked
+  write : ℕ → ℕ → Asked
+
+-- R-14: a call is asked for by someone, in a role
+pub record Call : Type 0 where
+  pub role : ℕ
+  pub asked : Asked
+
+abbrev pub askedBy : ℕ → Asked → Call
+askedBy role a = record { role = role; asked = a }
+
+-- a call's arguments "apart from the lent stores and what the outputs held before"
+pub data AskedWith : Type 0 where
+  bank : Bool → Hop → AskedWith
+  gate : Bool → GateHop → ℕ → ℕ → AskedWith
+  hold : Bool → ℕ → ℕ → AskedWith
+  write : ℕ → ℕ → AskedWith
+
+abbrev pub with : Asked → AskedWith
+with (bank c h) = bank c h
+with (gate c h rise drop) = gate c h (length rise) (length drop)
+with (hold c rise drop) = hold c (length rise) (length drop)
+with (write i v) = write i v
+
+-- .. and its role
+pub record Arguments : Type 0 where
+  pub role : ℕ
+  pub asked : AskedWith
+
+abbrev pub arguments : Call → Arguments
+arguments c = record { role = c .role; asked = with (c .asked) }
+
+-- what it is exported as: an update has the same right, however its power comes and whatever it holds
+abbrev pub exported : AskedWith → Exported
+exported (bank true h) = bank-update-worst
+exported (bank false h) = bank-update
+exported (gate true h rise drop) = gate-update-map
+exported (gate false h rise drop) = gate-update
+exported (hold true rise drop) = gate-hold-map
+exported (hold false rise drop) = gate-hold
+exported (write i v) = map-write
+
+-- "a call stopped for lack of a right": with 16, and everything as it was
+abbrev pub unlessStopped : {A : Type 0} → Call → (ℕ → A) → A → A
+unlessStopped c kept done = asRole (exported (with (c .asked))) (c .role) kept done
 
 -- the lent stores: the bank's and the gate's, with the gate's pairs (R-3), which gate updates and holds change; beside the bank those of the
 -- worst floor of late (R-6), which the updates that carry them change; beside the gate its map (R-12), which the calls that carry it change, and
@@ -42,20 +86,24 @@ pub record Stores : Type 0 where
   pub wf : List Float
   pub map : List ℕ
 
--- what a call answers, 0 or its refusal, and the stores that it leaves
-unfoldable pub step : Stores → Call → ℕ × Stores
-step s (bank c h) =
+-- what is asked for answers, 0 or its refusal, and the stores that it leaves
+unfoldable pub does : Stores → Asked → ℕ × Stores
+does s (bank c h) =
     let a = updateIf c (s .bu) (s .bf) (s .wu) (s .wf) h in
     (a .0, record { bu = a .1; bf = a .2; gu = s .gu; gf = s .gf; wu = a .3; wf = a .4; map = s .map })
-step s (gate c h rise drop) =
+does s (gate c h rise drop) =
     let a = gateUpdateIf c (s .bu) (s .bf) (s .gu) (s .gf) (s .map) h rise drop in
     (a .0, record { bu = s .bu; bf = s .bf; gu = a .1; gf = a .2; wu = s .wu; wf = s .wf; map = a .3 })
-step s (hold c rise drop) =
+does s (hold c rise drop) =
     let a = gateHoldIf c (s .bu) (s .bf) (s .gu) (s .gf) (s .map) rise drop in
     (a .0, record { bu = s .bu; bf = s .bf; gu = s .gu; gf = a .1; wu = s .wu; wf = s .wf; map = a .2 })
-step s (write i v) =
+does s (write i v) =
     let a = mapWrite (s .gu) (s .gf) (s .map) i v in
     (a .0, record { bu = s .bu; bf = s .bf; gu = s .gu; gf = s .gf; wu = s .wu; wf = s .wf; map = a .1 })
+
+-- .. and a call: one that is stopped "doesn't count as accepted in any guarantee"
+unfoldable pub step : Stores → Call → ℕ × Stores
+step s c = unlessStopped c (λ r. (r, s)) (does s (c .asked))
 
 abbrev pub answer : Stores → Call → ℕ
 answer s c = step s c .0
@@ -63,25 +111,22 @@ answer s c = step s c .0
 abbrev pub left : Stores → Call → Stores
 left s c = step s c .1
 
--- what the output slice rise holds after a gate update or a hold
+-- what the output slices, rise and drop, held before
+abbrev pub marksBefore : Asked → List ℕ × List ℕ
+marksBefore (bank c h) = ([], [])
+marksBefore (gate c h rise drop) = (rise, drop)
+marksBefore (hold c rise drop) = (rise, drop)
+marksBefore (write i v) = ([], [])
+
+-- what rise holds after a gate update or a hold
+unfoldable pub risesDone : Stores → Asked → List ℕ
+risesDone s (bank c h) = []
+risesDone s (gate c h rise drop) = gateUpdateIf c (s .bu) (s .bf) (s .gu) (s .gf) (s .map) h rise drop .4
+risesDone s (hold c rise drop) = gateHoldIf c (s .bu) (s .bf) (s .gu) (s .gf) (s .map) rise drop .3
+risesDone s (write i v) = []
+
 unfoldable pub risesOf : Stores → Call → List ℕ
-risesOf s (bank c h) = []
-risesOf s (gate c h rise drop) = gateUpdateIf c (s .bu) (s .bf) (s .gu) (s .gf) (s .map) h rise drop .4
-risesOf s (hold c rise drop) = gateHoldIf c (s .bu) (s .bf) (s .gu) (s .gf) (s .map) rise drop .3
-risesOf s (write i v) = []
-
--- a call's arguments "apart from the lent stores and what the outputs held before"
-pub data Arguments : Type 0 where
-  bank : Bool → Hop → Arguments
-  gate : Bool → GateHop → ℕ → ℕ → Arguments
-  hold : Bool → ℕ → ℕ → Arguments
-  write : ℕ → ℕ → Arguments
-
-abbrev pub arguments : Call → Arguments
-arguments (bank c h) = bank c h
-arguments (gate c h rise drop) = gate c h (length rise) (length drop)
-arguments (hold c rise drop) = hold c (length rise) (length drop)
-arguments (write i v) = write i v
+risesOf s c = unlessStopped c (λ _. marksBefore (c .asked) .0) (risesDone s (c .asked))
 
 -- ---- lists of calls: "each call is lent the bank and gate as the call before left them", and the map
 
@@ -94,14 +139,14 @@ answers s [] = []
 answers s (c ∷ cs) = answer s c ∷ answers (left s c) cs
 
 -- "a call is accepted if it isn't refused": the hop of an accepted bank update, and of an accepted gate update
-abbrev pub bankHop : ℕ → Arguments → List Hop
+abbrev pub bankHop : ℕ → AskedWith → List Hop
 bankHop zero (bank c h) = h ∷ []
 bankHop zero (gate c h rise drop) = []
 bankHop zero (hold c rise drop) = []
 bankHop zero (write i v) = []
 bankHop (suc r) c = []
 
-abbrev pub gateHop : ℕ → Arguments → List GateHop
+abbrev pub gateHop : ℕ → AskedWith → List GateHop
 gateHop zero (bank c h) = []
 gateHop zero (gate c h rise drop) = h ∷ []
 gateHop zero (hold c rise drop) = []
@@ -110,11 +155,11 @@ gateHop (suc r) c = []
 
 abbrev pub bankHops : Stores → List Call → List Hop
 bankHops s [] = []
-bankHops s (c ∷ cs) = bankHop (answer s c) (arguments c) ++ bankHops (left s c) cs
+bankHops s (c ∷ cs) = bankHop (answer s c) (arguments c .asked) ++ bankHops (left s c) cs
 
 abbrev pub gateHops : Stores → List Call → List GateHop
 gateHops s [] = []
-gateHops s (c ∷ cs) = gateHop (answer s c) (arguments c) ++ gateHops (left s c) cs
+gateHops s (c ∷ cs) = gateHop (answer s c) (arguments c .asked) ++ gateHops (left s c) cs
 
 -- the numbers of accepted updates
 abbrev pub bankUpdates : Stores → List Call → ℕ
@@ -178,8 +223,8 @@ made k p =
       map = newMap k p .1;
     }
 
--- none is refused. A set that never carries R-6's store, or R-12's map, has none: any W and any stores of the right lengths stand for it, since
--- they are not touched
+-- none is refused. A set that never carries R-6's store or R-12's map has none: any W, and any stores and bytes of the right lengths stand for them,
+-- since they are not touched
 pub record Made (k : Making) (p : Lent) : Type 0 where
   pub bank : newBank k p .0 ≡ 0
   pub gate : newGate k p .0 ≡ 0

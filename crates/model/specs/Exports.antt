@@ -1,102 +1,152 @@
 -- Each exported call does what demand 3's step says: from the equation that is its contract, `step`'s answer and stores, and the rises.
--- In the contracts r, u, f, m, rise and drop are the answer and what the lent slices hold at exit.
-use mathlib.Core.Path.{_≡_, ap}
-use mathlib.Core.Bool.{Bool, true, false}
+-- In the contracts role is who asks, and r, u, f, m, rise and drop are the answer and what the lent slices hold at exit.
+use mathlib.Core.Path.{_≡_, refl, ap, _∙_}
+use mathlib.Core.Bool.{Bool, true, false, cond}
 use mathlib.Core.List.{List}
 use Prim.Native.Nat.{ℕ}
 use lib.Ieee.{Float}
 use Rattle.model.specs.Bank.{Hop}
 use Rattle.model.specs.Calls.{bankUpdate}
 use Rattle.model.specs.GateCalls.{GateHop, gateUpdate, gateHold}
-use Rattle.model.specs.WorstCalls.{Answered, worstUpdate}
 use Rattle.model.specs.MapCalls.{gateUpdateMap, gateHoldMap, mapWrite}
+use Rattle.model.specs.WorstCalls.{Answered, worstUpdate}
 use Rattle.model.specs.Decibels.{linearHop, linearGateHop}
-use Rattle.model.specs.Demand3.{bank, gate, hold, write, Stores, step, risesOf}
+use Rattle.roles.specs.Rights.{Exported, bank-update, bank-update-worst, gate-update, gate-update-map, gate-hold, gate-hold-map, map-write, bank-update-linear, bank-update-linear-worst, gate-update-linear, gate-update-linear-map, may, asRole}
+use Rattle.model.specs.Demand3.{askedBy, bank, gate, hold, write, Stores, does, step, risesDone, risesOf}
+
+-- R-14: what is made of a call's answer is made of both its cases
+either-way : {A B : Type 0} (f : A → B) (b : Bool) (x y : A) → f (cond b x y) ≡ cond b (f x) (f y)
+either-way f true x y = refl
+either-way f false x y = refl
+
+through : {A B : Type 0} (f : A → B) (e : Exported) (role : ℕ) (kept : ℕ → A) (said : A)
+    → f (asRole e role kept said) ≡ asRole e role (λ r. f (kept r)) (f said)
+unfolding asRole
+through f e role kept said = either-way f (may e role) said (kept 16)
+
+-- a set with these stores for its bank's, its gate's, or its map
+abbrev pub withBank : Stores → List ℕ → List Float → Stores
+withBank s u f = record { bu = u; bf = f; gu = s .gu; gf = s .gf; wu = s .wu; wf = s .wf; map = s .map }
+
+abbrev pub withWorst : Stores → List ℕ → List Float → List ℕ → List Float → Stores
+withWorst s u f wu wf = record { bu = u; bf = f; gu = s .gu; gf = s .gf; wu = wu; wf = wf; map = s .map }
+
+abbrev pub withGate : Stores → List ℕ → List Float → List ℕ → Stores
+withGate s u f m = record { bu = s .bu; bf = s .bf; gu = u; gf = f; wu = s .wu; wf = s .wf; map = m }
 
 -- wolfcloak_bank_update, wolfcloak_bank_update_holding_reference
-pub bank-does : (s : Stores) (h : Hop) (r : ℕ) (u : List ℕ) (f : List Float) → (r, u, f) ≡ bankUpdate (s .bu) (s .bf) h
-    → (r, record { bu = u; bf = f; gu = s .gu; gf = s .gf; wu = s .wu; wf = s .wf; map = s .map }) ≡ step s (bank false h)
-unfolding step
-bank-does s h r u f e = ap (λ (a : ℕ × List ℕ × List Float). (a .0, record { bu = a .1; bf = a .2; gu = s .gu; gf = s .gf; wu = s .wu; wf = s .wf; map = s .map })) e
+pub bank-does : (s : Stores) (role : ℕ) (h : Hop) (r : ℕ) (u : List ℕ) (f : List Float)
+    → (r, u, f) ≡ asRole bank-update role (λ r. (r, s .bu, s .bf)) (bankUpdate (s .bu) (s .bf) h)
+    → (r, withBank s u f) ≡ step s (askedBy role (bank false h))
+unfolding step does
+bank-does s role h r u f e =
+    let on : ℕ × List ℕ × List Float → ℕ × Stores = λ a. (a .0, withBank s (a .1) (a .2)) in
+    ap on e ∙ through on bank-update role (λ r. (r, s .bu, s .bf)) (bankUpdate (s .bu) (s .bf) h)
 
 -- wolfcloak_bank_update_worst
-pub carry-does : (s : Stores) (h : Hop) (r : ℕ) (u : List ℕ) (f : List Float) (wu : List ℕ) (wf : List Float)
-    → (r, u, f, wu, wf) ≡ worstUpdate (s .bu) (s .bf) (s .wu) (s .wf) h
-    → (r, record { bu = u; bf = f; gu = s .gu; gf = s .gf; wu = wu; wf = wf; map = s .map }) ≡ step s (bank true h)
-unfolding step
-carry-does s h r u f wu wf e =
-    ap (λ (a : Answered). (a .0, record { bu = a .1; bf = a .2; gu = s .gu; gf = s .gf; wu = a .3; wf = a .4; map = s .map })) e
+pub carry-does : (s : Stores) (role : ℕ) (h : Hop) (r : ℕ) (u : List ℕ) (f : List Float) (wu : List ℕ) (wf : List Float)
+    → (r, u, f, wu, wf) ≡ asRole bank-update-worst role (λ r. (r, s .bu, s .bf, s .wu, s .wf)) (worstUpdate (s .bu) (s .bf) (s .wu) (s .wf) h)
+    → (r, withWorst s u f wu wf) ≡ step s (askedBy role (bank true h))
+unfolding step does
+carry-does s role h r u f wu wf e =
+    let on : Answered → ℕ × Stores = λ a. (a .0, withWorst s (a .1) (a .2) (a .3) (a .4)) in
+    ap on e ∙ through on bank-update-worst role (λ r. (r, s .bu, s .bf, s .wu, s .wf)) (worstUpdate (s .bu) (s .bf) (s .wu) (s .wf) h)
 
 -- wolfcloak_gate_update
-pub gate-does : (s : Stores) (h : GateHop) (rise drop rise′ drop′ : List ℕ) (r : ℕ) (u : List ℕ) (f : List Float)
-    → (r, u, f, rise′, drop′) ≡ gateUpdate (s .bu) (s .bf) (s .gu) (s .gf) h rise drop
-    → ((r, record { bu = s .bu; bf = s .bf; gu = u; gf = f; wu = s .wu; wf = s .wf; map = s .map }) ≡ step s (gate false h rise drop)) × (rise′ ≡ risesOf s (gate false h rise drop))
-unfolding step risesOf
-gate-does s h rise drop rise′ drop′ r u f e = (
-  ap (λ (a : ℕ × List ℕ × List Float × List ℕ × List ℕ). (a .0, record { bu = s .bu; bf = s .bf; gu = a .1; gf = a .2; wu = s .wu; wf = s .wf; map = s .map })) e,
-  ap (λ (a : ℕ × List ℕ × List Float × List ℕ × List ℕ). a .3) e,
-)
+pub gate-does : (s : Stores) (role : ℕ) (h : GateHop) (rise drop rise′ drop′ : List ℕ) (r : ℕ) (u : List ℕ) (f : List Float)
+    → (r, u, f, rise′, drop′) ≡ asRole gate-update role (λ r. (r, s .gu, s .gf, rise, drop)) (gateUpdate (s .bu) (s .bf) (s .gu) (s .gf) h rise drop)
+    → let c = askedBy role (gate false h rise drop) in
+    ((r, withGate s u f (s .map)) ≡ step s c) × (rise′ ≡ risesOf s c)
+unfolding step does risesOf risesDone
+gate-does s role h rise drop rise′ drop′ r u f e =
+    let on : ℕ × List ℕ × List Float × List ℕ × List ℕ → ℕ × Stores = λ a. (a .0, withGate s (a .1) (a .2) (s .map)) in
+    let rises : ℕ × List ℕ × List Float × List ℕ × List ℕ → List ℕ = λ a. a .3 in
+    let kept : ℕ → ℕ × List ℕ × List Float × List ℕ × List ℕ = λ r. (r, s .gu, s .gf, rise, drop) in
+    let said = gateUpdate (s .bu) (s .bf) (s .gu) (s .gf) h rise drop in
+    (ap on e ∙ through on gate-update role kept said, ap rises e ∙ through rises gate-update role kept said)
 
 -- wolfcloak_gate_hold, which is lent the gate's u16 store to read only
-pub hold-does : (s : Stores) (rise drop rise′ drop′ : List ℕ) (r : ℕ) (f : List Float)
-    → (r, f, rise′, drop′) ≡ gateHold (s .bu) (s .bf) (s .gu) (s .gf) rise drop
-    → ((r, record { bu = s .bu; bf = s .bf; gu = s .gu; gf = f; wu = s .wu; wf = s .wf; map = s .map }) ≡ step s (hold false rise drop)) × (rise′ ≡ risesOf s (hold false rise drop))
-unfolding step risesOf
-hold-does s rise drop rise′ drop′ r f e = (
-  ap (λ (a : ℕ × List Float × List ℕ × List ℕ). (a .0, record { bu = s .bu; bf = s .bf; gu = s .gu; gf = a .1; wu = s .wu; wf = s .wf; map = s .map })) e,
-  ap (λ (a : ℕ × List Float × List ℕ × List ℕ). a .2) e,
-)
+pub hold-does : (s : Stores) (role : ℕ) (rise drop rise′ drop′ : List ℕ) (r : ℕ) (f : List Float)
+    → (r, f, rise′, drop′) ≡ asRole gate-hold role (λ r. (r, s .gf, rise, drop)) (gateHold (s .bu) (s .bf) (s .gu) (s .gf) rise drop)
+    → let c = askedBy role (hold false rise drop) in
+    ((r, withGate s (s .gu) f (s .map)) ≡ step s c) × (rise′ ≡ risesOf s c)
+unfolding step does risesOf risesDone
+hold-does s role rise drop rise′ drop′ r f e =
+    let on : ℕ × List Float × List ℕ × List ℕ → ℕ × Stores = λ a. (a .0, withGate s (s .gu) (a .1) (s .map)) in
+    let rises : ℕ × List Float × List ℕ × List ℕ → List ℕ = λ a. a .2 in
+    let kept : ℕ → ℕ × List Float × List ℕ × List ℕ = λ r. (r, s .gf, rise, drop) in
+    let said = gateHold (s .bu) (s .bf) (s .gu) (s .gf) rise drop in
+    (ap on e ∙ through on gate-hold role kept said, ap rises e ∙ through rises gate-hold role kept said)
 
 -- wolfcloak_gate_update_map
-pub gate-map-does : (s : Stores) (h : GateHop) (rise drop rise′ drop′ : List ℕ) (r : ℕ) (u : List ℕ) (f : List Float) (m : List ℕ)
-    → (r, u, f, m, rise′, drop′) ≡ gateUpdateMap (s .bu) (s .bf) (s .gu) (s .gf) (s .map) h rise drop
-    → ((r, record { bu = s .bu; bf = s .bf; gu = u; gf = f; wu = s .wu; wf = s .wf; map = m }) ≡ step s (gate true h rise drop)) × (rise′ ≡ risesOf s (gate true h rise drop))
-unfolding step risesOf
-gate-map-does s h rise drop rise′ drop′ r u f m e = (
-  ap (λ (a : ℕ × List ℕ × List Float × List ℕ × List ℕ × List ℕ). (a .0, record { bu = s .bu; bf = s .bf; gu = a .1; gf = a .2; wu = s .wu; wf = s .wf; map = a .3 })) e,
-  ap (λ (a : ℕ × List ℕ × List Float × List ℕ × List ℕ × List ℕ). a .4) e,
-)
+pub gate-map-does : (s : Stores) (role : ℕ) (h : GateHop) (rise drop rise′ drop′ : List ℕ) (r : ℕ) (u : List ℕ) (f : List Float) (m : List ℕ)
+    → (r, u, f, m, rise′, drop′)
+    ≡ asRole gate-update-map role (λ r. (r, s .gu, s .gf, s .map, rise, drop)) (gateUpdateMap (s .bu) (s .bf) (s .gu) (s .gf) (s .map) h rise drop)
+    → let c = askedBy role (gate true h rise drop) in
+    ((r, withGate s u f m) ≡ step s c) × (rise′ ≡ risesOf s c)
+unfolding step does risesOf risesDone
+gate-map-does s role h rise drop rise′ drop′ r u f m e =
+    let on : ℕ × List ℕ × List Float × List ℕ × List ℕ × List ℕ → ℕ × Stores = λ a. (a .0, withGate s (a .1) (a .2) (a .3)) in
+    let rises : ℕ × List ℕ × List Float × List ℕ × List ℕ × List ℕ → List ℕ = λ a. a .4 in
+    let kept : ℕ → ℕ × List ℕ × List Float × List ℕ × List ℕ × List ℕ = λ r. (r, s .gu, s .gf, s .map, rise, drop) in
+    let said = gateUpdateMap (s .bu) (s .bf) (s .gu) (s .gf) (s .map) h rise drop in
+    (ap on e ∙ through on gate-update-map role kept said, ap rises e ∙ through rises gate-update-map role kept said)
 
 -- wolfcloak_gate_hold_map
-pub hold-map-does : (s : Stores) (rise drop rise′ drop′ : List ℕ) (r : ℕ) (f : List Float) (m : List ℕ)
-    → (r, f, m, rise′, drop′) ≡ gateHoldMap (s .bu) (s .bf) (s .gu) (s .gf) (s .map) rise drop
-    → ((r, record { bu = s .bu; bf = s .bf; gu = s .gu; gf = f; wu = s .wu; wf = s .wf; map = m }) ≡ step s (hold true rise drop)) × (rise′ ≡ risesOf s (hold true rise drop))
-unfolding step risesOf
-hold-map-does s rise drop rise′ drop′ r f m e = (
-  ap (λ (a : ℕ × List Float × List ℕ × List ℕ × List ℕ). (a .0, record { bu = s .bu; bf = s .bf; gu = s .gu; gf = a .1; wu = s .wu; wf = s .wf; map = a .2 })) e,
-  ap (λ (a : ℕ × List Float × List ℕ × List ℕ × List ℕ). a .3) e,
-)
+pub hold-map-does : (s : Stores) (role : ℕ) (rise drop rise′ drop′ : List ℕ) (r : ℕ) (f : List Float) (m : List ℕ)
+    → (r, f, m, rise′, drop′)
+    ≡ asRole gate-hold-map role (λ r. (r, s .gf, s .map, rise, drop)) (gateHoldMap (s .bu) (s .bf) (s .gu) (s .gf) (s .map) rise drop)
+    → let c = askedBy role (hold true rise drop) in
+    ((r, withGate s (s .gu) f m) ≡ step s c) × (rise′ ≡ risesOf s c)
+unfolding step does risesOf risesDone
+hold-map-does s role rise drop rise′ drop′ r f m e =
+    let on : ℕ × List Float × List ℕ × List ℕ × List ℕ → ℕ × Stores = λ a. (a .0, withGate s (s .gu) (a .1) (a .2)) in
+    let rises : ℕ × List Float × List ℕ × List ℕ × List ℕ → List ℕ = λ a. a .3 in
+    let kept : ℕ → ℕ × List Float × List ℕ × List ℕ × List ℕ = λ r. (r, s .gf, s .map, rise, drop) in
+    let said = gateHoldMap (s .bu) (s .bf) (s .gu) (s .gf) (s .map) rise drop in
+    (ap on e ∙ through on gate-hold-map role kept said, ap rises e ∙ through rises gate-hold-map role kept said)
 
 -- wolfcloak_map_write, which is lent the gate's stores to read only
-pub write-does : (s : Stores) (i v r : ℕ) (m : List ℕ) → (r, m) ≡ mapWrite (s .gu) (s .gf) (s .map) i v
-    → (r, record { bu = s .bu; bf = s .bf; gu = s .gu; gf = s .gf; wu = s .wu; wf = s .wf; map = m }) ≡ step s (write i v)
-unfolding step
-write-does s i v r m e = ap (λ (a : ℕ × List ℕ). (a .0, record { bu = s .bu; bf = s .bf; gu = s .gu; gf = s .gf; wu = s .wu; wf = s .wf; map = a .1 })) e
+pub write-does : (s : Stores) (role i v r : ℕ) (m : List ℕ) → (r, m) ≡ asRole map-write role (λ r. (r, s .map)) (mapWrite (s .gu) (s .gf) (s .map) i v)
+    → (r, withGate s (s .gu) (s .gf) m) ≡ step s (askedBy role (write i v))
+unfolding step does
+write-does s role i v r m e =
+    let on : ℕ × List ℕ → ℕ × Stores = λ a. (a .0, withGate s (s .gu) (s .gf) (a .1)) in
+    ap on e ∙ through on map-write role (λ r. (r, s .map)) (mapWrite (s .gu) (s .gf) (s .map) i v)
 
--- R-13: an update from linear power alone is the update above with the dB that it works out, so it counts like it in every guarantee
+-- R-13: an update from linear power alone is the update above with the dB that it works out, so it counts like it in every guarantee; its right is
+-- the same
 
 -- wolfcloak_bank_update_linear
-pub linear-bank-does : (s : Stores) (held : Bool) (power : List Float) (r : ℕ) (u : List ℕ) (f : List Float)
-    → (r, u, f) ≡ bankUpdate (s .bu) (s .bf) (linearHop held power)
-    → (r, record { bu = u; bf = f; gu = s .gu; gf = s .gf; wu = s .wu; wf = s .wf; map = s .map }) ≡ step s (bank false (linearHop held power))
-linear-bank-does s held power = bank-does s (linearHop held power)
+pub linear-bank-does : (s : Stores) (role : ℕ) (held : Bool) (power : List Float) (r : ℕ) (u : List ℕ) (f : List Float)
+    → (r, u, f) ≡ asRole bank-update-linear role (λ r. (r, s .bu, s .bf)) (bankUpdate (s .bu) (s .bf) (linearHop held power))
+    → (r, withBank s u f) ≡ step s (askedBy role (bank false (linearHop held power)))
+unfolding asRole
+linear-bank-does s role held power r u f e = bank-does s role (linearHop held power) r u f e
 
 -- wolfcloak_gate_update_linear
-pub linear-gate-does : (s : Stores) (power : List Float) (rise drop rise′ drop′ : List ℕ) (r : ℕ) (u : List ℕ) (f : List Float)
-    → (r, u, f, rise′, drop′) ≡ gateUpdate (s .bu) (s .bf) (s .gu) (s .gf) (linearGateHop power) rise drop
-    → ((r, record { bu = s .bu; bf = s .bf; gu = u; gf = f; wu = s .wu; wf = s .wf; map = s .map }) ≡ step s (gate false (linearGateHop power) rise drop))
-    × (rise′ ≡ risesOf s (gate false (linearGateHop power) rise drop))
-linear-gate-does s power = gate-does s (linearGateHop power)
+pub linear-gate-does : (s : Stores) (role : ℕ) (power : List Float) (rise drop rise′ drop′ : List ℕ) (r : ℕ) (u : List ℕ) (f : List Float)
+    → (r, u, f, rise′, drop′)
+    ≡ asRole gate-update-linear role (λ r. (r, s .gu, s .gf, rise, drop)) (gateUpdate (s .bu) (s .bf) (s .gu) (s .gf) (linearGateHop power) rise drop)
+    → let c = askedBy role (gate false (linearGateHop power) rise drop) in
+    ((r, withGate s u f (s .map)) ≡ step s c) × (rise′ ≡ risesOf s c)
+unfolding asRole
+linear-gate-does s role power rise drop rise′ drop′ r u f e = gate-does s role (linearGateHop power) rise drop rise′ drop′ r u f e
 
 -- wolfcloak_gate_update_linear_map
-pub linear-gate-map-does : (s : Stores) (power : List Float) (rise drop rise′ drop′ : List ℕ) (r : ℕ) (u : List ℕ) (f : List Float) (m : List ℕ)
-    → (r, u, f, m, rise′, drop′) ≡ gateUpdateMap (s .bu) (s .bf) (s .gu) (s .gf) (s .map) (linearGateHop power) rise drop
-    → ((r, record { bu = s .bu; bf = s .bf; gu = u; gf = f; wu = s .wu; wf = s .wf; map = m }) ≡ step s (gate true (linearGateHop power) rise drop))
-    × (rise′ ≡ risesOf s (gate true (linearGateHop power) rise drop))
-linear-gate-map-does s power = gate-map-does s (linearGateHop power)
+pub linear-gate-map-does : (s : Stores) (role : ℕ) (power : List Float) (rise drop rise′ drop′ : List ℕ) (r : ℕ) (u : List ℕ) (f : List Float) (m : List ℕ)
+    → (r, u, f, m, rise′, drop′)
+    ≡ asRole gate-update-linear-map role (λ r. (r, s .gu, s .gf, s .map, rise, drop))
+    (gateUpdateMap (s .bu) (s .bf) (s .gu) (s .gf) (s .map) (linearGateHop power) rise drop)
+    → let c = askedBy role (gate true (linearGateHop power) rise drop) in
+    ((r, withGate s u f m) ≡ step s c) × (rise′ ≡ risesOf s c)
+unfolding asRole
+linear-gate-map-does s role power rise drop rise′ drop′ r u f m e = gate-map-does s role (linearGateHop power) rise drop rise′ drop′ r u f m e
 
 -- wolfcloak_bank_update_linear_worst
-pub linear-carry-does : (s : Stores) (held : Bool) (power : List Float) (r : ℕ) (u : List ℕ) (f : List Float) (wu : List ℕ) (wf : List Float)
-    → (r, u, f, wu, wf) ≡ worstUpdate (s .bu) (s .bf) (s .wu) (s .wf) (linearHop held power)
-    → (r, record { bu = u; bf = f; gu = s .gu; gf = s .gf; wu = wu; wf = wf; map = s .map }) ≡ step s (bank true (linearHop held power))
-linear-carry-does s held power = carry-does s (linearHop held power)
+pub linear-carry-does : (s : Stores) (role : ℕ) (held : Bool) (power : List Float) (r : ℕ) (u : List ℕ) (f : List Float) (wu : List ℕ) (wf : List Float)
+    → (r, u, f, wu, wf)
+    ≡ asRole bank-update-linear-worst role (λ r. (r, s .bu, s .bf, s .wu, s .wf)) (worstUpdate (s .bu) (s .bf) (s .wu) (s .wf) (linearHop held power))
+    → (r, withWorst s u f wu wf) ≡ step s (askedBy role (bank true (linearHop held power)))
+unfolding asRole
+linear-carry-does s role held power r u f wu wf e = carry-does s role (linearHop held power) r u f wu wf e

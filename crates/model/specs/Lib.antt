@@ -33,6 +33,7 @@ pub mod Sets
 pub mod Anew
 pub mod Remembered
 pub mod Exports
+pub mod Remake
 pub mod Segments
 pub mod Louder
 pub mod MapSets

@@ -8,7 +8,7 @@ use Prim.Native.Nat.{ℕ, zero, suc, _<_}
 use Rattle.model.specs.Map.{freshMap}
 use Rattle.model.specs.MapCalls.{gateUpdateIf, gateHoldIf}
 use Rattle.model.specs.MapReach.{MapCall, marks, writes, mapLeftBy, Kind, flagOf, MarkedSince, Exactly}
-use Rattle.model.specs.Demand3.{Call, bank, gate, hold, write, Stores, Lent, left, leftBy, Making, made, Made}
+use Rattle.model.specs.Demand3.{Asked, Call, bank, gate, hold, write, Stores, unlessStopped, Lent, left, leftBy, Making, made, Made}
 
 -- a call that was accepted
 abbrev pub accepted : ℕ → MapCall → List MapCall
@@ -17,17 +17,21 @@ accepted (suc r) c = []
 
 -- what a call does to the map: one that carries it, if accepted, sets the flags of the marks that it writes; a write is a write; the others do
 -- nothing
-unfoldable pub onMap : Stores → Call → List MapCall
-onMap s (bank c h) = []
-onMap s (gate false h rise drop) = []
-onMap s (gate true h rise drop) =
+unfoldable pub doneOnMap : Stores → Asked → List MapCall
+doneOnMap s (bank c h) = []
+doneOnMap s (gate false h rise drop) = []
+doneOnMap s (gate true h rise drop) =
     let a = gateUpdateIf true (s .bu) (s .bf) (s .gu) (s .gf) (s .map) h rise drop in
     accepted (a .0) (marks (a .4) (a .5))
-onMap s (hold false rise drop) = []
-onMap s (hold true rise drop) =
+doneOnMap s (hold false rise drop) = []
+doneOnMap s (hold true rise drop) =
     let a = gateHoldIf true (s .bu) (s .bf) (s .gu) (s .gf) (s .map) rise drop in
     accepted (a .0) (marks (a .3) (a .4))
-onMap s (write i v) = writes i v ∷ []
+doneOnMap s (write i v) = writes i v ∷ []
+
+-- R-14: a call that is stopped does nothing
+unfoldable pub onMap : Stores → Call → List MapCall
+onMap s c = unlessStopped c (λ _. []) (doneOnMap s (c .asked))
 
 abbrev pub allOnMap : Stores → List Call → List MapCall
 allOnMap s [] = []

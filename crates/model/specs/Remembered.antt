@@ -10,7 +10,7 @@ use Rattle.model.specs.Numbers.{f0}
 use Rattle.model.specs.Gate.{Gate, thresholdOf}
 use Rattle.model.specs.MapCalls.{mapWrite, gateUpdateIf, gateHoldIf}
 use Rattle.model.specs.WorstCalls.{updateIf}
-use Rattle.model.specs.Demand3.{Call, bank, gate, hold, write, Stores, Lent, left, leftBy, Making, made, Made}
+use Rattle.model.specs.Demand3.{Asked, Call, bank, gate, hold, write, Stores, unlessStopped, marksBefore, Lent, left, leftBy, Making, made, Made}
 use Rattle.model.specs.Sets.{gateIn}
 use Rattle.model.specs.Anew.{allSeenAnew}
 
@@ -26,15 +26,18 @@ abbrev pub StayTrue : Type 0
 StayTrue = (k : Making) (p : Lent) → Made k p → (cs : List Call) → PairsTrue (gateIn (leftBy (made k p) cs))
 
 -- a call's answer, and what its output slices, rise and drop, hold after it
-unfoldable pub seen : Stores → Call → ℕ × List ℕ × List ℕ
-seen s (bank c h) = (updateIf c (s .bu) (s .bf) (s .wu) (s .wf) h .0, [], [])
-seen s (gate c h rise drop) =
+unfoldable pub shown : Stores → Asked → ℕ × List ℕ × List ℕ
+shown s (bank c h) = (updateIf c (s .bu) (s .bf) (s .wu) (s .wf) h .0, [], [])
+shown s (gate c h rise drop) =
     let a = gateUpdateIf c (s .bu) (s .bf) (s .gu) (s .gf) (s .map) h rise drop in
     (a .0, a .4, a .5)
-seen s (hold c rise drop) =
+shown s (hold c rise drop) =
     let a = gateHoldIf c (s .bu) (s .bf) (s .gu) (s .gf) (s .map) rise drop in
     (a .0, a .3, a .4)
-seen s (write i v) = (mapWrite (s .gu) (s .gf) (s .map) i v .0, [], [])
+shown s (write i v) = (mapWrite (s .gu) (s .gf) (s .map) i v .0, [], [])
+
+unfoldable pub seen : Stores → Call → ℕ × List ℕ × List ℕ
+seen s c = unlessStopped c (λ r. (r, marksBefore (c .asked) .0, marksBefore (c .asked) .1)) (shown s (c .asked))
 
 abbrev pub allSeen : Stores → List Call → List (ℕ × List ℕ × List ℕ)
 allSeen s [] = []

@@ -1,6 +1,6 @@
 -- R-6 of document 02, stated: "It must equal the maximum over those hops for every list of such updates from a fresh bank and store of equal n, and
--- a store so reached is always sound". The words in quotes are document 02's. Stores, calls and lists of calls are demand 3's, so gate updates, holds
--- and refused calls may stand among the updates. The proofs are `worst-is`, `worst-sound` and `unnoticed` in proofs/WorstOfLate.antt.
+-- a store so reached is always sound". The words in quotes are document 02's. Stores, calls and lists of calls are demand 3's, so gate updates, holds,
+-- writes to the map and refused calls may stand among the updates. The proofs are `worst-is`, `worst-sound` and `unnoticed` in proofs/WorstOfLate.antt.
 use mathlib.Core.Path.{_≡_}
 use mathlib.Core.Bool.{Bool, true, false, _&&_}
 use mathlib.Core.List.{List, [], _∷_, _++_, map}
@@ -11,26 +11,29 @@ use Rattle.model.specs.Bank.{FloorBank}
 use Rattle.model.specs.Readings.{effectiveAt}
 use Rattle.model.specs.Worst.{highest, latest}
 use Rattle.model.specs.WorstCalls.{besideRefusal, worstReading}
-use Rattle.model.specs.Demand3.{Call, bank, gate, hold, write, Stores, answer, left, leftBy, answers, bankIn, Making, Lent, newBank, newWorst, made}
+use Rattle.model.specs.Demand3.{Asked, AskedWith, with, Call, bank, gate, hold, write, Stores, answer, left, leftBy, answers, bankIn, Making, Lent, newBank, newWorst, made}
 
 -- ---- the banks that a list leaves, with nothing carried: no ring stands here
 
-abbrev pub carries : Call → Bool
+abbrev pub carries : AskedWith → Bool
 carries (bank c h) = c
 carries (gate c h rise drop) = false
 carries (hold c rise drop) = false
 carries (write i v) = false
 
--- the same call, carrying nothing
+-- the same call, carrying no such store
+abbrev pub askedPlain : Asked → Asked
+askedPlain (bank c h) = bank false h
+askedPlain (gate c h rise drop) = gate c h rise drop
+askedPlain (hold c rise drop) = hold c rise drop
+askedPlain (write i v) = write i v
+
 abbrev pub plain : Call → Call
-plain (bank c h) = bank false h
-plain (gate c h rise drop) = gate c h rise drop
-plain (hold c rise drop) = hold c rise drop
-plain (write i v) = write i v
+plain c = record { role = c .role; asked = askedPlain (c .asked) }
 
 -- "accepted slow hops .. of the bank updates that carry it"
 unfoldable pub counts : Stores → Call → Bool
-counts s c = carries c && eqb (answer s (plain c)) 0 && eqb (bankIn s .phase) 0
+counts s c = carries (with (c .asked)) && eqb (answer s (plain c)) 0 && eqb (bankIn s .phase) 0
 
 -- the bank after a call, if it counts
 abbrev pub slowBank : Bool → FloorBank → List FloorBank
@@ -75,7 +78,7 @@ pub record SameBut (s t : Stores) : Type 0 where
   pub gf : s .gf ≡ t .gf
   pub map : s .map ≡ t .map
 
--- bank and gate are what they would be if nothing were carried, and the same calls are refused, with the same refusals
+-- bank, gate and map are what they would be if no such store were carried, and the same calls are refused, with the same refusals
 abbrev pub Unnoticed : Type 0
 Unnoticed =
     (m : Making) (p : Lent) → Fresh m p → (cs : List Call)

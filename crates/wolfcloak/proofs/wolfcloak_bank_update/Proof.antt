@@ -1,7 +1,17 @@
 -- `wolfcloak::wolfcloak_bank_update` meets its contract: it is that of what it calls. Assumes nothing.
+use mathlib.Core.Path.{_∙_}
 use borrow.Author.Needs.{needs}
+use Rattle.roles.specs.Rights.{bank-update}
+use Rattle.roles.proofs.Roles.{stopped, granted}
 use Rattle.wolfcloak.proofs.wolfcloak_bank_update.Statement.{statement}
 use Rattle.wolfcloak.proofs.wolfcloak_bank_update.Tie as tie
+
+may-requires : tie.Need-may-requires
+may-requires c κs = search needs
+
+-- the role lacks the right
+returns : tie.Need-returns
+returns c = stopped bank-update _ _ _ _ (c .before .may .ensures) (c .if1 .taken)
 
 bank-update-requires : tie.Need-bank-update-requires
 bank-update-requires c κs = search needs
@@ -12,8 +22,12 @@ same-length c = search needs
 same-length-2 : tie.Need-same-length-2
 same-length-2 c = search needs
 
-returns : tie.Need-returns
-returns c = c .before .before .before .before .bank-update .ensures
+returns-2 : tie.Need-returns-2
+returns-2 c =
+    let q = c .before .before .before .before in
+    let t = q .before .before .before in
+    q .bank-update .ensures
+    ∙ granted bank-update _ _ _ _ (t .before .may .ensures) (t .if1 .left)
 
 pub wolfcloak-bank-update-spec : {M : Type 1} → statement M
-wolfcloak-bank-update-spec = tie.close (tie.spec bank-update-requires same-length same-length-2 returns)
+wolfcloak-bank-update-spec = tie.close (tie.spec may-requires returns bank-update-requires same-length same-length-2 returns-2)

@@ -1,7 +1,17 @@
 -- `wolfcloak::gate_rows::wolfcloak_gate_update` meets its contract: it is that of what it calls. Assumes nothing.
+use mathlib.Core.Path.{_∙_}
 use borrow.Author.Needs.{needs}
+use Rattle.roles.specs.Rights.{gate-update}
+use Rattle.roles.proofs.Roles.{stopped, granted}
 use Rattle.wolfcloak.proofs.gate_rows.wolfcloak_gate_update.Statement.{statement}
 use Rattle.wolfcloak.proofs.gate_rows.wolfcloak_gate_update.Tie as tie
+
+may-requires : tie.Need-may-requires
+may-requires c κs = search needs
+
+-- the role lacks the right
+returns : tie.Need-returns
+returns c = stopped gate-update _ _ _ _ (c .before .may .ensures) (c .if1 .taken)
 
 gate-update-requires : tie.Need-gate-update-requires
 gate-update-requires c κs = search needs
@@ -18,8 +28,12 @@ same-length-3 c = search needs
 same-length-4 : tie.Need-same-length-4
 same-length-4 c = search needs
 
-returns : tie.Need-returns
-returns c = c .before .before .before .before .before .before .before .before .gate-update .ensures
+returns-2 : tie.Need-returns-2
+returns-2 c =
+    let q = c .before .before .before .before .before .before .before .before in
+    let t = q .before .before .before .before .before in
+    q .gate-update .ensures
+    ∙ granted gate-update _ _ _ _ (t .before .may .ensures) (t .if1 .left)
 
 pub wolfcloak-gate-update-spec : {M : Type 1} → statement M
-wolfcloak-gate-update-spec = tie.close (tie.spec gate-update-requires same-length same-length-2 same-length-3 same-length-4 returns)
+wolfcloak-gate-update-spec = tie.close (tie.spec may-requires returns gate-update-requires same-length same-length-2 same-length-3 same-length-4 returns-2)

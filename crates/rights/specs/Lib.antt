@@ -1,0 +1,2 @@
+pub mod AllCalls
+pub mod Alone
