@@ -48,7 +48,9 @@ RefusedExactly = (s : Stores) (r : Run) → pairRefusal (s .bu) (s .bf) (s .gu) 
 
 -- "a run of no hops makes the same checks, changes nothing and answers 0"
 abbrev pub NoHops : Type 0
-NoHops = (s : Stores) (r : Run) → r .hold ≡ [] → receivedOn s r ≡ (refusalOn s r, s .bu, s .bf, s .gu, s .gf, r .rise, r .drop)
+NoHops = (s : Stores) (db power : List Float) (rise drop : List ℕ)
+    → let r : Run = record { hold = []; db = db; power = power; rise = rise; drop = drop } in
+    receivedOn s r ≡ (refusalOn s r, s .bu, s .bf, s .gu, s .gf, rise, drop)
 
 -- "a run is the list of its hops' calls": what a run on s asks of demand 3's lists. One that is stopped or refused asks nothing
 abbrev pub runCalls : ℕ → Stores → Run → List Call
