@@ -5,9 +5,9 @@ use mathlib.Core.List.{List, [], _∷_, _++_}
 use Prim.Native.Nat.{ℕ}
 use Rattle.model.specs.Demand3.{Stores, Call, askedBy, gate, hold, does, step, left, leftBy, risesDone, risesOf}
 use Rattle.roles.specs.Rights.{technician, asRole}
-use Rattle.run_model.specs.Runs.{RunHop, isHeld, callsOf, dropsDone, dropsOf, risesBy, dropsBy, alone}
+use Rattle.run_model.specs.Runs.{RunHop, isHeld, bankCall, gateCall, callsOf, dropsDone, dropsOf, risesBy, dropsBy, alone}
 use Rattle.run_model.specs.Claims.{with-run}
-use Rattle.run_model.proofs.Taken.{bankCall, gateCall}
+use Rattle.run_model.specs.Hops.{hopLeft, hopRises, hopDrops}
 
 abbrev pub four : Stores → Stores
 four s = alone (s .bu) (s .bf) (s .gu) (s .gf)
@@ -53,15 +53,6 @@ unfolding risesOf risesDone dropsOf dropsDone asRole
 bank-marks s h = (refl, refl)
 
 -- ---- a hop
-
-abbrev pub hopLeft : Stores → RunHop → Stores
-hopLeft s h = left (left s (bankCall h)) (gateCall h)
-
-abbrev pub hopRises : Stores → RunHop → List ℕ
-hopRises s h = risesOf (left s (bankCall h)) (gateCall h)
-
-abbrev pub hopDrops : Stores → RunHop → List ℕ
-hopDrops s h = dropsOf (left s (bankCall h)) (gateCall h)
 
 pub hop-four : (s : Stores) (h : RunHop) → hopLeft (four s) h ≡ four (hopLeft s h)
 hop-four s h = ap (λ (t : Stores). left t (gateCall h)) (bank-four s h) ∙ gate-four (left s (bankCall h)) h (isHeld h)

@@ -16,14 +16,15 @@ use Rattle.model.specs.Demand3.{Stores, leftBy, answers}
 use Rattle.roles.specs.Rights.{receive, may, asRole}
 use Rattle.run_model.specs.Runs.{Run, RunHop, hopsOf, hopsFrom, callsOf, garbledRun, notLong, runRefusal, Received, alone, runLeaves, received}
 use Rattle.run_model.specs.Claims.{refusalOn, receivedOn, callsOn, with-run, AsCalls, AcceptedRun, RefusedExactly, NoHops, runCalls, ReceiveDoes}
-use Rattle.run_model.proofs.Taken.{Fit, fit-of}
+use Rattle.run_model.proofs.Taken.{fit-of}
 use Rattle.run_model.proofs.Beside.{run-over, run-rises, run-drops}
 use Rattle.run_model.proofs.Runs.{AllLong, hops-long, none-refused, refused-exactly}
 
 -- ---- what a run that is not refused has shown
 
-pub all-long : (n : ℕ) (r : Run) → notLong n r ≡ false → AllLong n (hopsOf n r)
-all-long n r e =
+pub run-long : (n : ℕ) (r : Run) → notLong n r ≡ false
+    → let L = length (r .hold) * n in (length (r .db) ≡ L) × (length (r .power) ≡ L) × (length (r .rise) ≡ L) × (length (r .drop) ≡ L)
+run-long n r e =
     let L = length (r .hold) * n in
     let d = differ (length (r .db)) L in
     let p = differ (length (r .power)) L in
@@ -31,8 +32,11 @@ all-long n r e =
     let o = differ (length (r .drop)) L in
     let e₃ = or-l (d || p || i) o e in
     let e₂ = or-l (d || p) i e₃ in
-    hops-long n (r .hold) (r .db) (r .power) (r .rise) (r .drop) (same-of _ L (or-l d p e₂)) (same-of _ L (or-r d p e₂)) (same-of _ L (or-r (d || p) i e₃))
-    (same-of _ L (or-r (d || p || i) o e))
+    (same-of _ L (or-l d p e₂), same-of _ L (or-r d p e₂), same-of _ L (or-r (d || p) i e₃), same-of _ L (or-r (d || p || i) o e))
+
+all-long : (n : ℕ) (r : Run) → notLong n r ≡ false → AllLong n (hopsOf n r)
+all-long n r e = let l = run-long n r e in
+    hops-long n (r .hold) (r .db) (r .power) (r .rise) (r .drop) (l .0) (l .1) (l .2) (l .3)
 
 pub record Passed (s : Stores) (r : Run) : Type 0 where
   pub pair : pairRefusal (s .bu) (s .bf) (s .gu) (s .gf) ≡ 0
@@ -103,12 +107,8 @@ no-hops s db power rise drop =
     no-hops-by (refusalOn s r) s db power rise drop
     (λ e.
     let n = getD (s .gu) 0 0 in
-    let t = passes s r e .long in
-    let d = differ (length db) (0 * n) in
-    let p = differ (length power) (0 * n) in
-    let i = differ (length rise) (0 * n) in
-    let o = differ (length drop) (0 * n) in
-    (same-of (length rise) (0 * n) (or-r (d || p) i (or-l (d || p || i) o t)) ∙ zero-mul n, same-of (length drop) (0 * n) (or-r (d || p || i) o t) ∙ zero-mul n))
+    let l = run-long n r (passes s r e .long) in
+    (l .2 ∙ zero-mul n, l .3 ∙ zero-mul n))
 
 -- a refused run leaves the set
 refused-leaves : (x : ℕ) (s : Stores) (r : Run) → eqb x 0 ≡ false

@@ -13,10 +13,10 @@ use Rattle.laws.proofs.Tests.{by-test, or-l, or-r}
 use Rattle.model.specs.Layout.{decimationHops}
 use Rattle.model.specs.Refusals.{garbled}
 use Rattle.model.specs.Demand3.{Stores, Call, answer, answers, left}
-use Rattle.run_model.specs.Runs.{RunHop, hopsFrom, callsOf, garbledRun}
+use Rattle.run_model.specs.Runs.{RunHop, hopsFrom, bankCall, gateCall, callsOf, garbledRun}
+use Rattle.run_model.specs.Hops.{Fit, Long, garbledHop, hopLeft}
 use Rattle.run_model.specs.Claims.{anyRefused}
-use Rattle.run_model.proofs.Taken.{Fit, Long, garbledHop, bankCall, gateCall, bank-answer, bank-refused, bank-accepted, bank-fits, bank-phase, gate-taken, gate-bank}
-use Rattle.run_model.proofs.Beside.{hopLeft}
+use Rattle.run_model.proofs.Taken.{bank-answer, bank-refused, bank-accepted, bank-fits, bank-phase, gate-taken, gate-bank}
 
 abbrev pub AllLong : ℕ → List RunHop → Type 0
 AllLong n [] = Unit {0}

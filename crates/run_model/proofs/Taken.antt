@@ -26,14 +26,8 @@ use Rattle.model.proofs.SettledFloors.{runBank, n-step, phase-step}
 use Rattle.model.proofs.Carrying.{leaves-bank, answer-alone}
 use Rattle.model.proofs.Calls.{gateAfter, leaves-gate, leaves-hold}
 use Rattle.roles.specs.Rights.{technician, asRole}
-use Rattle.run_model.specs.Runs.{RunHop, isHeld, bankAsked, gateAsked}
-
--- a bank and a gate of n channels that no call refuses
-pub record Fit (n : ℕ) (s : Stores) : Type 0 where
-  pub bank-passes : bankRefusal (s .bu) (s .bf) ≡ 0
-  pub gate-passes : gateRefusal (s .gu) (s .gf) ≡ 0
-  pub bank-n : getD (s .bu) 0 0 ≡ n
-  pub gate-n : getD (s .gu) 0 0 ≡ n
+use Rattle.run_model.specs.Runs.{RunHop, isHeld, bankCall, gateCall}
+use Rattle.run_model.specs.Hops.{Fit, Long, garbledHop}
 
 pub fit-of : (s : Stores) → pairRefusal (s .bu) (s .bf) (s .gu) (s .gf) ≡ 0 → Fit (getD (s .gu) 0 0) s
 unfolding pairRefusal
@@ -46,23 +40,6 @@ fit-of s e =
 pub pair-passes : (n : ℕ) (s : Stores) → Fit n s → pairRefusal (s .bu) (s .bf) (s .gu) (s .gf) ≡ 0
 unfolding pairRefusal
 pair-passes n s v = rw (v .bank-passes, v .gate-passes, agrees (getD (s .bu) 0 0) (getD (s .gu) 0 0) (v .bank-n ∙ sym (v .gate-n)))
-
--- a hop of n channels
-pub record Long (n : ℕ) (h : RunHop) : Type 0 where
-  pub db : length (h .db) ≡ n
-  pub power : length (h .power) ≡ n
-  pub rise : length (h .rise) ≡ n
-  pub drop : length (h .drop) ≡ n
-
--- the hop is slow, and the bank takes it for garbled
-abbrev pub garbledHop : ℕ → Stores → RunHop → Bool
-garbledHop n s h = eqb (getD (s .bu) 1 0) 0 && garbled n (h .db)
-
-abbrev pub bankCall : RunHop → Call
-bankCall h = askedBy technician (bankAsked h)
-
-abbrev pub gateCall : RunHop → Call
-gateCall h = askedBy technician (gateAsked h)
 
 -- ---- the bank's call
 

@@ -55,10 +55,17 @@ bankAsked h = bank false (hop (isHeld h) (h .db) (h .power))
 abbrev pub gateAsked : RunHop → Asked
 gateAsked h = cond (isHeld h) (hold false (h .rise) (h .drop)) (gate false (record { db = h .db; power = h .power }) (h .rise) (h .drop))
 
--- "for each hop in turn"; the receiver acts as technician
+-- the receiver acts as technician
+abbrev pub bankCall : RunHop → Call
+bankCall h = askedBy technician (bankAsked h)
+
+abbrev pub gateCall : RunHop → Call
+gateCall h = askedBy technician (gateAsked h)
+
+-- "for each hop in turn"
 abbrev pub callsOf : List RunHop → List Call
 callsOf [] = []
-callsOf (h ∷ hs) = askedBy technician (bankAsked h) ∷ askedBy technician (gateAsked h) ∷ callsOf hs
+callsOf (h ∷ hs) = bankCall h ∷ gateCall h ∷ callsOf hs
 
 -- ---- "the marks of each hop go to its n places of rise and drop"
 
