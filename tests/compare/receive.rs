@@ -34,7 +34,7 @@ struct Run {
     drop: Vec<u8>,
 }
 
-/// What floor.rs is.
+/// floor.rs's bank and gate.
 struct Old {
     bank: FloorBank,
     gate: Gate,
@@ -258,12 +258,12 @@ impl Lent {
 
     /// What is due, in the order of the checks.
     fn due(&self) -> u16 {
-        let (set, r) = (&self.set, &self.r);
-        let c = Call { u: &set.u, f: &set.f, gate: &set.gate, gate_f: &set.gate_f, ..Call::default() };
-        let stores = refusal(&c, &[&STORE, &SOUND, &GATE_STORE, &GATE_SOUND, &GATE_FLOATS, &PAIR]);
         if self.role != TECHNICIAN {
             return 16;
         }
+        let (set, r) = (&self.set, &self.r);
+        let c = Call { u: &set.u, f: &set.f, gate: &set.gate, gate_f: &set.gate_f, ..Call::default() };
+        let stores = refusal(&c, &[&STORE, &SOUND, &GATE_STORE, &GATE_SOUND, &GATE_FLOATS, &PAIR]);
         if stores != 0 {
             return stores;
         }
