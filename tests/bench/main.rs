@@ -24,6 +24,7 @@ mod numbers;
 mod plain_antennas;
 #[path = "../compare/plain_log.rs"]
 mod plain_log;
+mod receive;
 mod registers;
 #[path = "../compare/wolfcloak.rs"]
 mod wolfcloak;
@@ -261,6 +262,8 @@ fn main() {
     mixed_rows(512, 1000);
     gate_rows(32, 12);
     gate_rows(512, 6);
+    receive::rows(32, 60);
+    receive::rows(512, 20);
     linear::rows(32, 3000);
     linear::rows(512, 900);
     registers::rows(32, 6);
