@@ -1,7 +1,7 @@
 -- Each exported call does what demand 3's step says: from the equation that is its contract, `step`'s answer and stores, and the rises.
 -- In the contracts role is who asks, and r, u, f, m, rise and drop are the answer and what the lent slices hold at exit.
-use mathlib.Core.Path.{_≡_, refl, ap, _∙_}
-use mathlib.Core.Bool.{Bool, true, false, cond}
+use mathlib.Core.Path.{_≡_, ap, _∙_}
+use mathlib.Core.Bool.{Bool, true, false}
 use mathlib.Core.List.{List}
 use Prim.Native.Nat.{ℕ}
 use lib.Ieee.{Float}
@@ -11,18 +11,9 @@ use Rattle.model.specs.GateCalls.{GateHop, gateUpdate, gateHold}
 use Rattle.model.specs.MapCalls.{gateUpdateMap, gateHoldMap, mapWrite}
 use Rattle.model.specs.WorstCalls.{Answered, worstUpdate}
 use Rattle.model.specs.Decibels.{linearHop, linearGateHop}
-use Rattle.roles.specs.Rights.{Exported, bank-update, bank-update-worst, gate-update, gate-update-map, gate-hold, gate-hold-map, map-write, bank-update-linear, bank-update-linear-worst, gate-update-linear, gate-update-linear-map, may, asRole}
+use Rattle.roles.specs.Rights.{bank-update, bank-update-worst, gate-update, gate-update-map, gate-hold, gate-hold-map, map-write, bank-update-linear, bank-update-linear-worst, gate-update-linear, gate-update-linear-map, asRole}
+use Rattle.roles.proofs.Roles.{through}
 use Rattle.model.specs.Demand3.{askedBy, bank, gate, hold, write, Stores, does, step, risesDone, risesOf}
-
--- R-14: what is made of a call's answer is made of both its cases
-either-way : {A B : Type 0} (f : A → B) (b : Bool) (x y : A) → f (cond b x y) ≡ cond b (f x) (f y)
-either-way f true x y = refl
-either-way f false x y = refl
-
-through : {A B : Type 0} (f : A → B) (e : Exported) (role : ℕ) (kept : ℕ → A) (said : A)
-    → f (asRole e role kept said) ≡ asRole e role (λ r. f (kept r)) (f said)
-unfolding asRole
-through f e role kept said = either-way f (may e role) said (kept 16)
 
 -- a set with these stores for its bank's, its gate's, or its map
 abbrev pub withBank : Stores → List ℕ → List Float → Stores
