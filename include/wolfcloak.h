@@ -176,7 +176,8 @@ uint16_t wolfcloak_gate_new(uint16_t role, uint16_t *gate, size_t gate_len, doub
 
 /*
  * Makes a gate that is there anew with other levels, as wolfcloak_gate_new takes them: its n and its window lengths stay, and the rest is
- * as that leaves it, fresh. Refuses with 2 or 9 for the gate's stores, then 4.
+ * as that leaves it, fresh. No map is lent, so one beside the gate stays as it is, flags included. Refuses with 2 or 9 for the gate's
+ * stores, then 4.
  */
 uint16_t wolfcloak_gate_remake(uint16_t role, uint16_t *gate, size_t gate_len, double *gate_f, size_t gate_f_len,
                                int32_t on, int32_t off, int32_t early);

@@ -1,6 +1,6 @@
 -- A segment that is waiting at as many consecutive accepted ticks as there are segments has been served in one of them: each tick that serves
 -- another brings the last served nearer to it. Assumes nothing.
-use mathlib.Core.Path.{_≡_, refl, sym, ap, _∙_}
+use mathlib.Core.Path.{_≡_, refl, sym, ap, _∙_, subst}
 use mathlib.Core.Bool.{Bool, true, false, not, cond, _||_}
 use mathlib.Core.List.{List, [], _∷_}
 use Prim.Native.Nat.{ℕ, zero, suc, _+_, _≤_, _<_}
@@ -12,12 +12,13 @@ use borrow.Author.Tests.{ltb-true, ltb-false, leb-true, eqb-false, not-false}
 use Rattle.laws.specs.Lists.{part}
 use Rattle.laws.specs.Tests.{within}
 use Rattle.laws.proofs.Tests.{by-test, clash, and-l, and-r, and-true, or-l}
+use Rattle.roles.specs.Rights.{dispatch, may, asRole}
 use Rattle.dispatch.specs.declared.Dispatched.{Dispatched}
 use Rattle.dispatch.specs.declared.Dispatched.the-variants.{Segment, NoneWaiting, Refused}
 use Rattle.dispatch.specs.Dispatch.{waits, strays, wrong, firstAfter, dispatchOf, givenBack}
-use Rattle.dispatch.specs.Fair.{stepsTo, InTurn, Right, ticks, isAccepted, serves, every, some, FairWithin, Fair, FairInEight, acceptedOf, RefusedLeftOut}
+use Rattle.dispatch.specs.Fair.{Tick, answerOf, stepsTo, InTurn, Right, ticks, isAccepted, serves, every, some, waitsAt, FairWithin, Fair, FairInEight, only, acceptedOf, RefusedLeftOut, FairAmong}
 use Rattle.dispatch.proofs.Steps.{here, later}
-use Rattle.dispatch.proofs.Turns.{steps-by, steps-low, steps-high, steps-same, last-below, answers-right}
+use Rattle.dispatch.proofs.Turns.{steps-by, steps-low, steps-high, steps-same, last-below, names-right}
 
 -- ---- what an accepted tick was handed
 
@@ -31,6 +32,17 @@ count-few count w last e =
     leb-true count 8
     (and-r (leb 1 count) (leb count 8)
     (not-false (within 1 8 count) (or-l (not (within 1 8 count)) (strays count w || leb count last) (not-wrong count w last e))))
+
+-- one that is accepted was not stopped
+granted : (count last : ℕ) (t : Tick) → isAccepted (answerOf count last t) ≡ true → answerOf count last t ≡ dispatchOf count (t .waiting) last
+unfolding answerOf asRole
+granted count last t e = by-test (may dispatch (t .role)) (λ m. rw m) (λ m. clash (sym (rw m at e)))
+
+named : (count last : ℕ) (t : Tick) → isAccepted (answerOf count last t) ≡ true → isAccepted (dispatchOf count (t .waiting) last) ≡ true
+named count last t e = sym (ap isAccepted (granted count last t e)) ∙ e
+
+right : (count last : ℕ) (t : Tick) → isAccepted (answerOf count last t) ≡ true → Right count (t .waiting) last (answerOf count last t)
+right count last t e = subst (Right count (t .waiting) last) (sym (granted count last t e)) (names-right count (t .waiting) last)
 
 -- ---- one tick
 
@@ -63,51 +75,55 @@ module _ (count i : ℕ) (b : i < count) where
 
   -- ---- a run
 
-  served-from : (ws : List ℕ) (last : ℕ) → last < count → stepsTo count last i ≤ length ws → every (λ w. waits w i) ws ≡ true
-      → every isAccepted (ticks count last ws) ≡ true → some (serves i) (ticks count last ws) ≡ true
+  served-from : (ts : List Tick) (last : ℕ) → last < count → stepsTo count last i ≤ length ts → every (waitsAt i) ts ≡ true
+      → every isAccepted (ticks count last ts) ≡ true → some (serves i) (ticks count last ts) ≡ true
   served-from [] last h s e q = absurd (omega (arith, steps-low count last h i))
-  served-from (w ∷ ws) last h s e q =
-      by-test (serves i a) (λ t. here (serves i a) (some (serves i) rest) t)
-      (λ t. (let n = nearer w last h (and-l (waits w i) (every (λ v. waits v i) ws) e) a (answers-right count w last) (and-l (isAccepted a) (every isAccepted rest) q) t in
+  served-from (t ∷ ts) last h s e q =
+      by-test (serves i a) (λ v. here (serves i a) (some (serves i) rest) v)
+      (λ v. (let n = nearer (t .waiting) last h (and-l (waitsAt i t) (every (waitsAt i) ts) e) a (right count last t taken) taken v in
       later (serves i a) (some (serves i) rest)
-      (served-from ws (givenBack last a) (n .0) (omega (arith, n .1)) (and-r (waits w i) (every (λ v. waits v i) ws) e)
+      (served-from ts (givenBack last a) (n .0) (omega (arith, n .1)) (and-r (waitsAt i t) (every (waitsAt i) ts) e)
       (and-r (isAccepted a) (every isAccepted rest) q))))
     where
       a : Dispatched
-      a = dispatchOf count w last
+      a = answerOf count last t
 
       rest : List Dispatched
-      rest = ticks count (givenBack last a) ws
+      rest = ticks count (givenBack last a) ts
 
-  served : (ws : List ℕ) (last : ℕ) → count ≤ length ws → every (λ w. waits w i) ws ≡ true
-      → every isAccepted (ticks count last ws) ≡ true → some (serves i) (ticks count last ws) ≡ true
+      taken : isAccepted a ≡ true
+      taken = and-l (isAccepted a) (every isAccepted rest) q
+
+  served : (ts : List Tick) (last : ℕ) → count ≤ length ts → every (waitsAt i) ts ≡ true
+      → every isAccepted (ticks count last ts) ≡ true → some (serves i) (ticks count last ts) ≡ true
   served [] last l e q = absurd (omega arith)
-  served (w ∷ ws) last l e q =
-      let h = last-below count w last
-      (not-wrong count w last (and-l (isAccepted (dispatchOf count w last)) (every isAccepted (ticks count (givenBack last (dispatchOf count w last)) ws)) q)) in
-      served-from (w ∷ ws) last h (omega (arith, steps-high count last h i b)) e q
+  served (t ∷ ts) last l e q =
+      let a = answerOf count last t in
+      let taken = and-l (isAccepted a) (every isAccepted (ticks count (givenBack last a) ts)) q in
+      let h = last-below count (t .waiting) last (not-wrong count (t .waiting) last (named count last t taken)) in
+      served-from (t ∷ ts) last h (omega (arith, steps-high count last h i b)) e q
 
 -- ---- ticks of a longer run
 
-ticks-take : (n count last : ℕ) (ws : List ℕ) → take n (ticks count last ws) ≡ ticks count last (take n ws)
-ticks-take zero count last ws = refl
+ticks-take : (n count last : ℕ) (ts : List Tick) → take n (ticks count last ts) ≡ ticks count last (take n ts)
+ticks-take zero count last ts = refl
 ticks-take (suc n) count last [] = refl
-ticks-take (suc n) count last (w ∷ ws) =
-    ap (λ (r : List Dispatched). dispatchOf count w last ∷ r) (ticks-take n count (givenBack last (dispatchOf count w last)) ws)
+ticks-take (suc n) count last (t ∷ ts) =
+    ap (λ (r : List Dispatched). answerOf count last t ∷ r) (ticks-take n count (givenBack last (answerOf count last t)) ts)
 
 within-run : (n count i : ℕ)
-    → ((ws : List ℕ) (last : ℕ) → n ≤ length ws → every (λ w. waits w i) ws ≡ true
-    → every isAccepted (ticks count last ws) ≡ true → some (serves i) (ticks count last ws) ≡ true)
-    → (ws : List ℕ) (a last : ℕ) → a + n ≤ length ws → every (λ w. waits w i) (part a n ws) ≡ true
-    → every isAccepted (part a n (ticks count last ws)) ≡ true → some (serves i) (part a n (ticks count last ws)) ≡ true
-within-run n count i f ws zero last l e q =
-    ap (some (serves i)) (ticks-take n count last ws)
-    ∙ f (take n ws) last (omega (arith, length-take-le n ws (omega arith))) e (sym (ap (every isAccepted) (ticks-take n count last ws)) ∙ q)
+    → ((ts : List Tick) (last : ℕ) → n ≤ length ts → every (waitsAt i) ts ≡ true
+    → every isAccepted (ticks count last ts) ≡ true → some (serves i) (ticks count last ts) ≡ true)
+    → (ts : List Tick) (a last : ℕ) → a + n ≤ length ts → every (waitsAt i) (part a n ts) ≡ true
+    → every isAccepted (part a n (ticks count last ts)) ≡ true → some (serves i) (part a n (ticks count last ts)) ≡ true
+within-run n count i f ts zero last l e q =
+    ap (some (serves i)) (ticks-take n count last ts)
+    ∙ f (take n ts) last (omega (arith, length-take-le n ts (omega arith))) e (sym (ap (every isAccepted) (ticks-take n count last ts)) ∙ q)
 within-run n count i f [] (suc a) last l e q = absurd (omega arith)
-within-run n count i f (w ∷ ws) (suc a) last l e q = within-run n count i f ws a (givenBack last (dispatchOf count w last)) (omega arith) e q
+within-run n count i f (t ∷ ts) (suc a) last l e q = within-run n count i f ts a (givenBack last (answerOf count last t)) (omega arith) e q
 
 pub fair : Fair
-fair count last i b ws a = within-run _ count i (λ vs start l e q. served count i b vs start (omega arith) e q) ws a last
+fair count last i b ts a = within-run _ count i (λ vs start l e q. served count i b vs start (omega arith) e q) ts a last
 
 -- ---- document 02's eight, from that
 
@@ -125,29 +141,29 @@ some-take p (suc n) (x ∷ xs) e =
     by-test (p x) (λ t. here (p x) (some p xs) t) (λ t. later (p x) (some p xs) (some-take p n xs (rw t at e)))
 
 -- an accepted tick was handed a count of at most eight
-few : (n count : ℕ) (ws : List ℕ) (a last : ℕ) → 1 ≤ n → a + n ≤ length ws → every isAccepted (part a n (ticks count last ws)) ≡ true → count ≤ 8
-few zero count ws a last s l q = absurd (omega arith)
+few : (n count : ℕ) (ts : List Tick) (a last : ℕ) → 1 ≤ n → a + n ≤ length ts → every isAccepted (part a n (ticks count last ts)) ≡ true → count ≤ 8
+few zero count ts a last s l q = absurd (omega arith)
 few (suc n) count [] a last s l q = absurd (omega arith)
-few (suc n) count (w ∷ ws) zero last s l q =
-    let t = dispatchOf count w last in
-    count-few count w last (and-l (isAccepted t) (every isAccepted (take n (ticks count (givenBack last t) ws))) q)
-few (suc n) count (w ∷ ws) (suc a) last s l q = few (suc n) count ws a (givenBack last (dispatchOf count w last)) s (omega arith) q
+few (suc n) count (t ∷ ts) zero last s l q =
+    let u = answerOf count last t in
+    count-few count (t .waiting) last (named count last t (and-l (isAccepted u) (every isAccepted (take n (ticks count (givenBack last u) ts))) q))
+few (suc n) count (t ∷ ts) (suc a) last s l q = few (suc n) count ts a (givenBack last (answerOf count last t)) s (omega arith) q
 
 -- of n ticks the first `count` are enough
 fair-within : (n count : ℕ) → count ≤ n → FairWithin n count
-fair-within n count c last i b ws a l e q =
-    let ts = drop a (ticks count last ws) in
-    let vs = drop a ws in
-    some-take (serves i) count (take n ts)
-    (ap (some (serves i)) (take-take count n ts c)
-    ∙ fair count last i b ws a (omega arith)
-    (sym (ap (every (λ w. waits w i)) (take-take count n vs c)) ∙ every-take (λ w. waits w i) count (take n vs) e)
-    (sym (ap (every isAccepted) (take-take count n ts c)) ∙ every-take isAccepted count (take n ts) q))
+fair-within n count c last i b ts a l e q =
+    let us = drop a (ticks count last ts) in
+    let vs = drop a ts in
+    some-take (serves i) count (take n us)
+    (ap (some (serves i)) (take-take count n us c)
+    ∙ fair count last i b ts a (omega arith)
+    (sym (ap (every (waitsAt i)) (take-take count n vs c)) ∙ every-take (waitsAt i) count (take n vs) e)
+    (sym (ap (every isAccepted) (take-take count n us c)) ∙ every-take isAccepted count (take n us) q))
 
 pub fair-in-eight : FairInEight
-fair-in-eight count last i b ws a l e q = fair-within _ count (omega (arith, few _ count ws a last (omega arith) l q)) last i b ws a l e q
+fair-in-eight count last i b ts a l e q = fair-within _ count (omega (arith, few _ count ts a last (omega arith) l q)) last i b ts a l e q
 
--- ---- refused ticks between accepted ones
+-- ---- refused and stopped ticks between accepted ones
 
 refused-keeps : (last : ℕ) (a : Dispatched) → isAccepted a ≡ false → givenBack last a ≡ last
 refused-keeps last (Segment j) e = clash e
@@ -156,8 +172,26 @@ refused-keeps last (Refused r) e = refl
 
 pub refused-left-out : RefusedLeftOut
 refused-left-out count last [] = refl
-refused-left-out count last (w ∷ ws) =
-    let a = dispatchOf count w last in
-    let rest = refused-left-out count (givenBack last a) ws in
-    by-test (isAccepted a) (λ t. simp t (ap (λ (r : List Dispatched). a ∷ r) rest))
-    (λ t. simp t (rest ∙ ap (λ (l : ℕ). ticks count l (acceptedOf count (givenBack last a) ws)) (refused-keeps last a t)))
+refused-left-out count last (t ∷ ts) =
+    let a = answerOf count last t in
+    let rest = refused-left-out count (givenBack last a) ts in
+    by-test (isAccepted a) (λ v. simp v (ap (λ (r : List Dispatched). a ∷ r) rest))
+    (λ v. simp v (rest ∙ ap (λ (l : ℕ). ticks count l (acceptedOf count (givenBack last a) ts)) (refused-keeps last a v)))
+
+every-drop : {A : Type 0} (p : A → Bool) (n : ℕ) (xs : List A) → every p xs ≡ true → every p (drop n xs) ≡ true
+every-drop p zero xs e = e
+every-drop p (suc n) [] e = refl
+every-drop p (suc n) (x ∷ xs) e = every-drop p n xs (and-r (p x) (every p xs) e)
+
+every-only : {A : Type 0} (p : A → Bool) (xs : List A) → every p (only p xs) ≡ true
+every-only p [] = refl
+every-only p (x ∷ xs) = by-test (p x) (λ v. simp (v, every-only p xs)) (λ v. simp (v, every-only p xs))
+
+pub fair-among : FairAmong
+fair-among count last i b ts a l e =
+    let us = only isAccepted (ticks count last ts) in
+    let same = refused-left-out count last ts in
+    ap (λ (r : List Dispatched). some (serves i) (part a 8 r)) same
+    ∙ fair-in-eight count last i b (acceptedOf count last ts) a l e
+    (sym (ap (λ (r : List Dispatched). every isAccepted (part a 8 r)) same)
+    ∙ every-take isAccepted 8 (drop a us) (every-drop isAccepted a us (every-only isAccepted (ticks count last ts))))

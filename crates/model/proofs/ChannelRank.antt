@@ -1,12 +1,14 @@
 -- What a sound channel's counts say of its entries, and the cases of the quartile. Assumes nothing.
-use mathlib.Core.Path.{_≡_, refl, sym, ap, _∙_}
+use mathlib.Core.Path.{_≡_, refl, sym, ap, ap₂, _∙_}
+use mathlib.Core.Bool.{true}
 use mathlib.Core.List.{List}
 use Prim.Native.Nat.{ℕ, zero, suc, _+_, _-_, _/_, _<_, _≤_}
 use native.Mathlib.Omega.{arith}
 use lib.Dec.{eqb, ltb}
 use lib.ListN.{length, getD}
 use lib.Seq.{length-take-le, getD-take}
-use borrow.Author.Tests.{ltb-true, ltb-false, eq-eqb, ne-eqb}
+use lib.Ieee.{ofBits, le}
+use borrow.Author.Tests.{ltb-true, ltb-false, eq-eqb, ne-eqb, eqb-true, eqb-false}
 use Rattle.laws.specs.Lists.{occ}
 use Rattle.laws.proofs.Lists.{getD-part}
 use Rattle.laws.proofs.Tests.{by-test}
@@ -14,7 +16,8 @@ use Rattle.model.specs.Layout.{histMin, bins, ringLen, atCounts}
 use Rattle.model.specs.Ring.{ChannelFloor, entries, centreOf, smallest, without, quartileOf, quartile, rawFloor, usableFloor, skipOf}
 use Rattle.model.specs.Stores.{chanOf}
 use Rattle.model.specs.Sound.{Sound}
-use Rattle.model.proofs.Rank.{under, under-zero, under-more, under-all, zeros-le, smallest-is, smallest-without}
+use Rattle.model.proofs.Rank.{under, under-zero, under-more, under-all, zeros-le, smallest-is, smallest-rises, smallest-without}
+use Rattle.model.proofs.BinOrder.{higher-centre}
 
 pub length-entries : {R K : ℕ} (c : ChannelFloor) → Sound R K c → length (entries c) ≡ c .filled
 length-entries c s = length-take-le (c .filled) (c .ring) (omega (arith, s .ring-length, s .filled-within))
@@ -95,3 +98,27 @@ all-lead c e = none-raw c (rw (eq-eqb (c .lead) (c .filled) e))
 pub some-lead : (c : ChannelFloor) → (c .lead ≡ c .filled → ⊥) → quartile (c .lead) c ≡ usableFloor c
 unfolding usableFloor
 some-lead c h = rw (ne-eqb (c .lead) (c .filled) h)
+
+-- ---- document 01: "Usable is at least raw"
+
+raw-itself : (c : ChannelFloor) → le (rawFloor c) (rawFloor c) ≡ true
+unfolding rawFloor quartile le ofBits
+raw-itself c = of-itself (c .filled - 0) (without 0 (entries c))
+  where
+    of-itself : (r : ℕ) (l : List ℕ) → le (quartileOf r l) (quartileOf r l) ≡ true
+    of-itself zero l = refl
+    of-itself (suc r) l = higher-centre (smallest ((suc r + 3) / 4) l) (smallest ((suc r + 3) / 4) l) (omega arith)
+
+pub usable-not-below-raw : {R K : ℕ} (c : ChannelFloor) → Sound R K c → 0 < K → le (rawFloor c) (usableFloor c) ≡ true
+usable-not-below-raw c s p =
+    by-test (eqb (c .lead) (c .filled))
+    (λ t. ap (le (rawFloor c)) (sym (all-lead c (eqb-true (c .lead) (c .filled) t))) ∙ raw-itself c)
+    (λ t.
+    let l = entries c in
+    let z = skip-within c (c .lead) s p (s .lead-within) in
+    let below : c .lead < c .filled = omega (arith, z, eqb-false (c .lead) (c .filled) t) in
+    let raw = some-left c 0 (c .filled) s p (omega arith) refl (omega arith) in
+    let usable = some-left c (c .lead) (c .filled) s p (s .lead-within) refl (omega arith) ∙ some-lead c (eqb-false (c .lead) (c .filled) t) in
+    ap₂ le (sym (raw ∙ (unfold rawFloor in refl))) (sym usable)
+    ∙ higher-centre (smallest (0 + (c .filled - 0 + 3) / 4) l) (smallest (c .lead + (c .filled - c .lead + 3) / 4) l)
+    (smallest-rises _ _ l (omega arith) (omega arith) (omega (arith, length-entries c s))))

@@ -128,7 +128,7 @@ under-smallest k l p h =
           (λ t. ltb-false (under (x + 1) l) k t),
     )
 
-smallest-rises : (j k : ℕ) (l : List ℕ) → 0 < j → j ≤ k → k ≤ length l → smallest j l ≤ smallest k l
+pub smallest-rises : (j k : ℕ) (l : List ℕ) → 0 < j → j ≤ k → k ≤ length l → smallest j l ≤ smallest k l
 smallest-rises j k l p h n = smallest-least (smallest j l) k l (omega arith) n (omega (arith, under-smallest j l p (omega arith) .0))
 
 -- of a higher list no more are below b ..
@@ -215,12 +215,3 @@ pub smallest-without : (s k : ℕ) (l : List ℕ) → s ≤ occ 0 l → 0 < k �
 smallest-without s k l z p h =
     let w = under-smallest (s + k) l (omega arith) h in
     stands (smallest (s + k) l) s k l z p (w .0) (w .1)
-
--- document 01: usable is at least raw
-pub usable-at-least-raw : (s : ℕ) (l : List ℕ) → s ≤ occ 0 l → s < length l
-    → smallest ((length l + 3) / 4) l ≤ smallest ((length l - s + 3) / 4) (without s l)
-usable-at-least-raw s l z h =
-    let r = length l in
-    let k = (r - s + 3) / 4 in
-    let up : smallest ((r + 3) / 4) l ≤ smallest (s + k) l = smallest-rises ((r + 3) / 4) (s + k) l (omega arith) (omega arith) (omega arith) in
-    omega (arith, smallest-without s k l z (omega arith) (omega arith))

@@ -1,4 +1,4 @@
--- R-14: demand 3 for a set whose gate was remade. Assumes nothing.
+-- R-14: R-3, sound stores and demand 3 for a set whose gate was remade. Assumes nothing.
 use mathlib.Core.Path.{_≡_, refl, sym, ap, ap₂, _∙_, subst}
 use mathlib.Core.Bool.{not, _&&_, _||_}
 use mathlib.Core.List.{List, [], _∷_, _++_, map, append-assoc, append-nil}
@@ -22,7 +22,7 @@ use Rattle.roles.specs.Rights.{gate-remake}
 use Rattle.model.specs.Demand3.{Call, Stores, step, answer, left, with, bankIn, bankHop, gateHop, Making, Lent, made, Made}
 use Rattle.model.specs.Sets.{gateIn, Sound}
 use Rattle.model.specs.Remembered.{PairsTrue}
-use Rattle.model.specs.Remake.{lengthsIn, remakeRefusal, gateRemake, Turn, call, remake, Levels, turn, turned, turnHop, hopsHeard, sinceFresh, hopsSinceFresh, inForce, levelsInForce, levelsOf, withLevels, SameBands, Season}
+use Rattle.model.specs.Remake.{lengthsIn, remakeRefusal, gateRemake, Turn, call, remake, Levels, turn, turned, turnHop, hopsHeard, sinceFresh, hopsSinceFresh, inForce, levelsInForce, levelsOf, withLevels, SameBands, StayTrueRemade, StaySoundRemade, Season}
 use Rattle.model.proofs.GoodGates.{gate-ready, gate-back, gate-passes, n-of, looks-of}
 use Rattle.model.proofs.FreshGates.{bare, good-fresh-gate}
 use Rattle.model.proofs.Pairs.{true-fresh}
@@ -189,7 +189,13 @@ heard-season : (k : Making) (p : Lent) → Made k p → (ts : List Turn)
     → Heard (withLevels k (levelsInForce (levelsOf k) (made k p) ts)) (turned (made k p) ts) (hopsHeard (made k p) ts) (hopsSinceFresh [] (made k p) ts)
 heard-season k p d ts = heard-turns k ts (levelsOf k) (made k p) [] [] (heard k p d [])
 
--- ---- the claim
+-- ---- the claims
+
+pub stay-true-remade : StayTrueRemade
+stay-true-remade k p d ts = heard-season k p d ts .true-pairs
+
+pub stay-sound-remade : StaySoundRemade
+stay-sound-remade k p d ts = heard-season k p d ts .sound
 
 pub season : Season
 season k l p q mp mq same xs ys eb eg el fs gs e =

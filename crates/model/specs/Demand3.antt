@@ -1,5 +1,6 @@
 -- Demand 3, stated: "Nobody who can choose what a set heard earlier can change its floors afterwards, nor its rises without early rise."
--- The words in quotes are the customer's and document 01's. The proof is `demand-3` in proofs/Demand3.antt.
+-- The words in quotes are the customer's and document 01's, and at a request's number document 02's. The proof is `demand-3` in proofs/Demand3.antt.
+-- A remake (R-14) stands in none of its lists: `Season` in Remake.antt says the same of a set whose gate was remade in mid-season.
 use mathlib.Core.Path.{_≡_}
 use mathlib.Core.Bool.{Bool, true, false, cond}
 use mathlib.Core.List.{List, [], _∷_, _++_, map}
@@ -267,12 +268,14 @@ abbrev pub Demand3 : Type 0
 Demand3 =
     -- "each from a fresh bank and gate of equal settings", and R-6's store with a W of its own
     (k : Making) (p q : Lent) → Made k p → Made k q
-    -- "take any two lists of bank updates, gate updates and holds", and of writes to the map
+    -- "Take any two lists of bank updates, gate updates and holds, refused ones included": from dB, or from linear power alone (R-13), whose hop has
+    -- the dB that are worked out; a bank update carrying R-6's store or not, a gate update or hold R-12's map or not; and writes to the map. Each in a
+    -- role (R-14): one that lacks the right is refused with 16 and counts as accepted nowhere. No remake stands in them
     → (xs ys : List Call)
     -- "whose numbers of accepted bank updates are equal modulo 15"
     → bankUpdates (made k p) xs % decimationHops ≡ bankUpdates (made k q) ys % decimationHops
     -- "and of accepted gate updates modulo twice every window length"
     → ((m : ℕ) → among m (k .lengths) ≡ true → gateUpdates (made k p) xs % (2 * m) ≡ gateUpdates (made k q) ys % (2 * m))
-    -- "whatever further list of these calls follows both": with the same arguments
+    -- "Whatever further list of these calls follows both": with the same arguments, the role among them
     → (fs gs : List Call) → map arguments fs ≡ map arguments gs
     → Same k (bankUpdates (made k p) xs) (leftBy (made k p) xs) (leftBy (made k q) ys) fs gs

@@ -1,9 +1,11 @@
--- Each exported call does what demand 3's step says: from the equation that is its contract, `step`'s answer and stores, and the rises.
+-- Each exported call does what demand 3's step says: from the equation that is its contract, `step`'s answer and stores, and the rises; a remake what
+-- the turn of Remake says.
 -- In the contracts role is who asks, and r, u, f, m, rise and drop are the answer and what the lent slices hold at exit.
-use mathlib.Core.Path.{_≡_, refl, ap, _∙_}
-use mathlib.Core.Bool.{Bool, true, false, cond}
+use mathlib.Core.Path.{_≡_, ap, _∙_}
+use mathlib.Core.Bool.{Bool, true, false}
 use mathlib.Core.List.{List}
 use Prim.Native.Nat.{ℕ}
+use lib.IntN.{ℤ}
 use lib.Ieee.{Float}
 use Rattle.model.specs.Bank.{Hop}
 use Rattle.model.specs.Calls.{bankUpdate}
@@ -11,18 +13,10 @@ use Rattle.model.specs.GateCalls.{GateHop, gateUpdate, gateHold}
 use Rattle.model.specs.MapCalls.{gateUpdateMap, gateHoldMap, mapWrite}
 use Rattle.model.specs.WorstCalls.{Answered, worstUpdate}
 use Rattle.model.specs.Decibels.{linearHop, linearGateHop}
-use Rattle.roles.specs.Rights.{Exported, bank-update, bank-update-worst, gate-update, gate-update-map, gate-hold, gate-hold-map, map-write, bank-update-linear, bank-update-linear-worst, gate-update-linear, gate-update-linear-map, may, asRole}
+use Rattle.roles.specs.Rights.{bank-update, bank-update-holding-reference, bank-update-worst, gate-update, gate-update-map, gate-hold, gate-hold-map, map-write, gate-remake, bank-update-linear, bank-update-linear-worst, gate-update-linear, gate-update-linear-map, asRole}
+use Rattle.roles.proofs.Roles.{through}
 use Rattle.model.specs.Demand3.{askedBy, bank, gate, hold, write, Stores, does, step, risesDone, risesOf}
-
--- R-14: what is made of a call's answer is made of both its cases
-either-way : {A B : Type 0} (f : A → B) (b : Bool) (x y : A) → f (cond b x y) ≡ cond b (f x) (f y)
-either-way f true x y = refl
-either-way f false x y = refl
-
-through : {A B : Type 0} (f : A → B) (e : Exported) (role : ℕ) (kept : ℕ → A) (said : A)
-    → f (asRole e role kept said) ≡ asRole e role (λ r. f (kept r)) (f said)
-unfolding asRole
-through f e role kept said = either-way f (may e role) said (kept 16)
+use Rattle.model.specs.Remake.{gateRemake, remake, turn}
 
 -- a set with these stores for its bank's, its gate's, or its map
 abbrev pub withBank : Stores → List ℕ → List Float → Stores
@@ -34,7 +28,7 @@ withWorst s u f wu wf = record { bu = u; bf = f; gu = s .gu; gf = s .gf; wu = wu
 abbrev pub withGate : Stores → List ℕ → List Float → List ℕ → Stores
 withGate s u f m = record { bu = s .bu; bf = s .bf; gu = u; gf = f; wu = s .wu; wf = s .wf; map = m }
 
--- wolfcloak_bank_update, wolfcloak_bank_update_holding_reference
+-- wolfcloak_bank_update
 pub bank-does : (s : Stores) (role : ℕ) (h : Hop) (r : ℕ) (u : List ℕ) (f : List Float)
     → (r, u, f) ≡ asRole bank-update role (λ r. (r, s .bu, s .bf)) (bankUpdate (s .bu) (s .bf) h)
     → (r, withBank s u f) ≡ step s (askedBy role (bank false h))
@@ -42,6 +36,13 @@ unfolding step does
 bank-does s role h r u f e =
     let on : ℕ × List ℕ × List Float → ℕ × Stores = λ a. (a .0, withBank s (a .1) (a .2)) in
     ap on e ∙ through on bank-update role (λ r. (r, s .bu, s .bf)) (bankUpdate (s .bu) (s .bf) h)
+
+-- wolfcloak_bank_update_holding_reference: its right is the same
+pub holding-does : (s : Stores) (role : ℕ) (h : Hop) (r : ℕ) (u : List ℕ) (f : List Float)
+    → (r, u, f) ≡ asRole bank-update-holding-reference role (λ r. (r, s .bu, s .bf)) (bankUpdate (s .bu) (s .bf) h)
+    → (r, withBank s u f) ≡ step s (askedBy role (bank false h))
+unfolding asRole
+holding-does s role h r u f e = bank-does s role h r u f e
 
 -- wolfcloak_bank_update_worst
 pub carry-does : (s : Stores) (role : ℕ) (h : Hop) (r : ℕ) (u : List ℕ) (f : List Float) (wu : List ℕ) (wf : List Float)
@@ -150,3 +151,14 @@ pub linear-carry-does : (s : Stores) (role : ℕ) (held : Bool) (power : List Fl
     → (r, withWorst s u f wu wf) ≡ step s (askedBy role (bank true (linearHop held power)))
 unfolding asRole
 linear-carry-does s role held power r u f wu wf e = carry-does s role (linearHop held power) r u f wu wf e
+
+-- ---- and a remake what the turn of `Season`'s lists says
+
+-- wolfcloak_gate_remake. It is lent no map, so one beside the gate stays as it is
+pub remake-does : (s : Stores) (role : ℕ) (on off early : ℤ) (r : ℕ) (u : List ℕ) (f : List Float)
+    → (r, u, f) ≡ asRole gate-remake role (λ r. (r, s .gu, s .gf)) (gateRemake (s .gu) (s .gf) on off early)
+    → (r, withGate s u f (s .map)) ≡ turn s (remake role on off early)
+unfolding turn
+remake-does s role on off early r u f e =
+    let on-gate : ℕ × List ℕ × List Float → ℕ × Stores = λ a. (a .0, withGate s (a .1) (a .2) (s .map)) in
+    ap on-gate e ∙ through on-gate gate-remake role (λ r. (r, s .gu, s .gf)) (gateRemake (s .gu) (s .gf) on off early)

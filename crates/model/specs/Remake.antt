@@ -1,6 +1,6 @@
 -- Document 02, R-14: "remake a gate with new levels: n and lengths stay, the rest is fresh, and the checks are the gate store, then 4". A set whose
 -- leader remade its gate in mid-season keeps demand 3, counted since its gate was last fresh. The proofs are `remade` in proofs/Remake.antt and
--- `season` in proofs/Season.antt.
+-- `season`, `stay-true-remade` and `stay-sound-remade` in proofs/Season.antt.
 use mathlib.Core.Path.{_≡_}
 use mathlib.Core.Bool.{Bool, true, not, _&&_, _||_}
 use mathlib.Core.List.{List, [], _∷_, _++_, map}
@@ -17,6 +17,8 @@ use Rattle.model.specs.GateStores.{mAt}
 use Rattle.model.specs.GateCalls.{GateHop, goodLevel, absent, gateRefusal, orElse, settingsOf, gateLeaves, gateNew}
 use Rattle.roles.specs.Rights.{gate-remake, asRole}
 use Rattle.model.specs.Demand3.{Call, Stores, step, arguments, with, bankHop, gateHop, Making, Lent, made, Made, Same}
+use Rattle.model.specs.Sets.{gateIn, Sound}
+use Rattle.model.specs.Remembered.{PairsTrue}
 
 -- ---- the call
 
@@ -94,7 +96,17 @@ abbrev pub levelsInForce : Levels → Stores → List Turn → Levels
 levelsInForce l s [] = l
 levelsInForce l s (t ∷ ts) = levelsInForce (inForce l (turn s t .0) t) (turn s t .1) ts
 
--- ---- the claim
+-- ---- R-3, and sound stores
+
+-- "every operation keeps the pair true, starting from a fresh gate": a remake is one of them
+abbrev pub StayTrueRemade : Type 0
+StayTrueRemade = (k : Making) (p : Lent) → Made k p → (ts : List Turn) → PairsTrue (gateIn (turned (made k p) ts))
+
+-- whatever the calls and remakes, refused or not, a set that was fresh is sound
+abbrev pub StaySoundRemade : Type 0
+StaySoundRemade = (k : Making) (p : Lent) → Made k p → (ts : List Turn) → Sound (turned (made k p) ts)
+
+-- ---- demand 3
 
 abbrev pub levelsOf : Making → Levels
 levelsOf k = record { on = k .on; off = k .off; early = k .early }

@@ -17,8 +17,8 @@ use Rattle.model.specs.Demand3.{Call, Stores, Lent, answer, left, risesO
 abbrev pub Segments : Type 0
 Segments = ℕ → Stores
 
--- a call names its segment; a tick of the dispatcher (its count, the waiting byte, the last served) is lent no store; and anything else may be
--- done to a segment's stores, as making them anew, after which they hold these
+-- a call names its segment; a tick of the dispatcher (its count, the waiting byte, the last served) is lent no store, in whatever role; and anything
+-- else may be done to a segment's stores, as making them anew or a remake, after which they hold these
 pub data Event : Type 0 where
   on : ℕ → Call → Event
   tick : ℕ → ℕ → ℕ → Event

@@ -1,4 +1,5 @@
--- Document 02, R-14: the exported calls that answer a refusal, with whatever arguments, and what each leaves in the stores.
+-- Document 02, R-14: the exported calls that answer a refusal, with whatever arguments, and what each leaves in the stores. Rows leads there from the
+-- contracts.
 use mathlib.Core.Bool.{Bool, true, false}
 use mathlib.Core.List.{List, [], _∷_}
 use Prim.Native.Nat.{ℕ}

@@ -3,17 +3,49 @@ use mathlib.Core.Path.{_≡_}
 use mathlib.Core.Bool.{Bool, true, false, cond}
 use mathlib.Core.List.{List, [], _∷_}
 use Prim.Native.Nat.{ℕ}
-use lib.Dec.{eqb}
-use Rattle.roles.specs.Rights.{keeper, leader, least}
-use Rattle.rights.specs.AllCalls.{Lent, Deed, named, leavesBy}
+use Rattle.roles.specs.Rights.{keeper, leader}
+use Rattle.rights.specs.AllCalls.{Lent, Deed, leavesBy, bank-new, bank-update, bank-update-holding-reference, channel-floor-db, effective-floor-db, rise-floor-db, spectral-reference, floors, ring, explain, gate-new, gate-update, gate-hold, gate-remake, smoothed-db, ema-rise, log-write, log-channels, log-read, log-combine, worst-new, bank-update-worst, worst-floor, dispatch, map-new, gate-update-map, gate-hold-map, map-read, map-write, map-wire, bank-update-linear, gate-update-linear, bank-update-linear-worst, gate-update-linear-map}
 
 -- "Calls made by keepers alone leave every store equal to what it was"
 abbrev pub KeepersAlone : Type 0
 KeepersAlone = (ds : List Deed) (e : Lent) → leavesBy keeper e ds ≡ e
 
--- the leader's own: a remake changes a gate, a write a map
+-- the two by which a leader changes anything: a remake changes a gate, a write a map. Named here, not taken from the table of rights
 abbrev pub turns : Deed → Bool
-turns d = eqb (least (named d)) leader
+turns (gate-remake on off early) = true
+turns (map-write address value) = true
+turns (bank-new n) = false
+turns (bank-update h) = false
+turns (bank-update-holding-reference h) = false
+turns (channel-floor-db k) = false
+turns (effective-floor-db k) = false
+turns (rise-floor-db k) = false
+turns (spectral-reference k) = false
+turns (floors k) = false
+turns (ring k) = false
+turns (explain k) = false
+turns (gate-new n on off early lengths) = false
+turns (gate-update h rise drop) = false
+turns (gate-hold rise drop) = false
+turns (smoothed-db k) = false
+turns (ema-rise k) = false
+turns (log-write n db power) = false
+turns log-channels = false
+turns (log-read at db power) = false
+turns (log-combine first second) = false
+turns (worst-new n W) = false
+turns (bank-update-worst h) = false
+turns (worst-floor k) = false
+turns (dispatch count waiting last) = false
+turns map-new = false
+turns (gate-update-map h rise drop) = false
+turns (gate-hold-map rise drop) = false
+turns (map-read address) = false
+turns map-wire = false
+turns (bank-update-linear held power) = false
+turns (gate-update-linear power rise drop) = false
+turns (bank-update-linear-worst held power) = false
+turns (gate-update-linear-map power rise drop) = false
 
 abbrev pub onlyTurns : List Deed → List Deed
 onlyTurns [] = []

@@ -1,2 +1,3 @@
 pub mod AllCalls
 pub mod Alone
+pub mod Rows
