@@ -123,7 +123,7 @@ same-entry n l i h k =
     eqb-true (getD l i 0) (getD l 0 0) (all-at (isFirst l) n i (sym (none-fails n (isFirst l)) ∙ and-r (eqb (getD l (atCounts + getD l 0 0) 0) n) (eqb (fails n (isFirst l)) 0) h) k)
 
 -- a test of every bin that says of each whether its count is how often it occurs
-sound-by : (l : List ℕ) (p : ℕ → Bool) → getD l atFilled 0 ≤ ringLen
+pub sound-by : (l : List ℕ) (p : ℕ → Bool) → getD l atFilled 0 ≤ ringLen
     → ((b : ℕ) → b < bins → p b ≡ eqb (getD l (atCounts + b) 0) (occ b (take (getD l atFilled 0) l)))
     → allBelow bins p ≡ soundCounts (chanOf l)
 unfolding soundCounts

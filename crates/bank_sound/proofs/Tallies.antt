@@ -16,7 +16,7 @@ use Rattle.model.specs.Layout.{bins}
 use Rattle.bank_sound.specs.Tallies.{laneSum, Tallied}
 
 -- one place of a list raised by one
-raised : (t : List ℕ) (p q : ℕ) → p < length t → getD (set t p (getD t p 0 + 1)) q 0 ≡ getD t q 0 + one (eqb q p)
+pub raised : (t : List ℕ) (p q : ℕ) → p < length t → getD (set t p (getD t p 0 + 1)) q 0 ≡ getD t q 0 + one (eqb q p)
 raised t p q h =
     by-test (eqb q p)
     (λ e.

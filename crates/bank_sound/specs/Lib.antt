@@ -1,2 +1,3 @@
 pub mod Fails
 pub mod Tallies
+pub mod Rows

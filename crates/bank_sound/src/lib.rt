@@ -1,7 +1,7 @@
 // Whether a channel's part of the bank's store is sound. It runs over the whole store at every call, so its loops count what is wrong
 // and never leave early: such a loop is compiled to wide steps.
 ghost use mathlib.Core.Path.{_≡_};
-ghost use mathlib.Core.Bool.{not};
+ghost use mathlib.Core.Bool.{true, not};
 ghost use Prim.Native.Nat.{ℕ, _+_, _*_, _≤_, _<_};
 ghost use lib.Dec.{ltb, eqb};
 ghost use lib.ListN.{length, getD};
@@ -10,9 +10,11 @@ ghost use Rattle.laws.specs.Tests.{allBelow};
 ghost use Rattle.model.specs.Layout.{bins, ringLen, atFilled, channelLen};
 ghost use Rattle.model.specs.Stores.{chanOf, soundFields, soundCounts, soundChannel};
 ghost use Rattle.bank_sound.specs.Fails.{strayEntries, otherEntries, ofOneBin, usedBins, isTallied};
+ghost use Rattle.bank_sound.specs.Rows.{chanAt, Ready, Rows, isBorneOut};
 ghost use Rattle.bank_sound.specs.Tallies.{laneSum, Tallied};
 use model::layout::BINS;
 use model::layout::BINS_U16;
+use model::layout::CHANNEL_LEN;
 use model::layout::COUNTS;
 use model::layout::FILLED;
 use model::layout::LEAD;
@@ -231,4 +233,147 @@ pub fn channel_sound(chan: &[u16]) -> bool
         return false;
     }
     counts_sound(chan, filled)
+}
+
+// ---- eight channels at once
+
+// Eight tallies one after another, one for each of eight channels. A processor that counts an entry of each in turn waits for none of
+// them, however often a ring has the same bin, and there is nothing to add up.
+const ROWS_LEN: usize = 8 * BINS;
+
+// Whether the ring is full, and all but the counts is sound. A ring of one bin, as it seems, is left to the quicker test of a single channel.
+fn is_ready(chan: &[u16]) -> bool
+    requires { ⌜ length (now chan) ≡ channelLen ⌝ }
+    ensures { λ r. ⌜ (r ≡ true → Ready (now (chan .entry))) ⌝ }
+{
+    let first = chan[0];
+    if first >= BINS_U16 {
+        return false;
+    }
+    if chan[COUNTS + first as usize] == RING_LEN_U16 {
+        return false;
+    }
+    let entries = chan[FILLED];
+    if entries != RING_LEN_U16 {
+        return false;
+    }
+    if !fields_sound(chan[NEXT], entries, chan[LEAD], chan[COUNTS]) {
+        return false;
+    }
+    stray_entries(chan) == 0
+}
+
+fn all_ready(bank: &[u16], from: usize) -> bool
+    requires { ⌜ (from ≤ 300000) × (from + 8 * channelLen ≤ length (now bank)) ⌝ }
+    ensures { λ r. ⌜ (r ≡ true → (k : ℕ) → k < 8 → Ready (chanAt from (now (bank .entry)) k)) ⌝ }
+{
+    let mut k: usize = 0;
+    while k < 8 {
+        let a = from + CHANNEL_LEN * k;
+        let e = a + CHANNEL_LEN;
+        if !is_ready(&bank[a..e]) {
+            return false;
+        }
+        k += 1;
+    }
+    true
+}
+
+// Entry i of the k-th channel.
+fn count_in(t: &mut [u8; ROWS_LEN], bank: &[u16], from: usize, i: usize, k: usize)
+    requires { ⌜ (from ≤ 300000) × (from + 8 * channelLen ≤ length (now bank)) × (i < ringLen) × (k < 8) ⌝ }
+    requires { ⌜ ((k : ℕ) → k < 8 → Ready (chanAt from (now bank) k)) ⌝ }
+    requires { ⌜ Rows i k from (now bank) (now t) ⌝ }
+    ensures { λ _. ⌜ Rows i (k + 1) from (now (bank .entry)) (now (t .exit)) ⌝ }
+{
+    let at = k * BINS + bank[from + CHANNEL_LEN * k + i] as usize;
+    t[at] = t[at] + 1;
+}
+
+// Entry i of each channel.
+fn count_row(t: &mut [u8; ROWS_LEN], bank: &[u16], from: usize, i: usize)
+    requires { ⌜ (from ≤ 300000) × (from + 8 * channelLen ≤ length (now bank)) × (i < ringLen) ⌝ }
+    requires { ⌜ ((k : ℕ) → k < 8 → Ready (chanAt from (now bank) k)) ⌝ }
+    requires { ⌜ Rows i 0 from (now bank) (now t) ⌝ }
+    ensures { λ _. ⌜ Rows (i + 1) 0 from (now (bank .entry)) (now (t .exit)) ⌝ }
+{
+    count_in(t, bank, from, i, 0);
+    count_in(t, bank, from, i, 1);
+    count_in(t, bank, from, i, 2);
+    count_in(t, bank, from, i, 3);
+    count_in(t, bank, from, i, 4);
+    count_in(t, bank, from, i, 5);
+    count_in(t, bank, from, i, 6);
+    count_in(t, bank, from, i, 7);
+}
+
+fn count_rows(t: &mut [u8; ROWS_LEN], bank: &[u16], from: usize)
+    requires { ⌜ (from ≤ 300000) × (from + 8 * channelLen ≤ length (now bank)) ⌝ }
+    requires { ⌜ ((k : ℕ) → k < 8 → Ready (chanAt from (now bank) k)) ⌝ }
+    requires { ⌜ Rows 0 0 from (now bank) (now t) ⌝ }
+    ensures { λ _. ⌜ Rows ringLen 0 from (now (bank .entry)) (now (t .exit)) ⌝ }
+{
+    let mut i: usize = 0;
+    while i < RING_LEN {
+        count_row(t, bank, from, i);
+        i += 1;
+    }
+}
+
+// Whether a tally bears out every count of the channel that begins at a place of the store.
+fn borne_out(bank: &[u16], at: usize, t: &[u8; ROWS_LEN], lane: usize) -> bool
+    requires { ⌜ (at ≤ 400000) × (at + channelLen ≤ length (now bank)) × (lane + bins ≤ 8 * bins) ⌝ }
+    ensures { λ r. ⌜ r ≡ allBelow bins (isBorneOut (now (bank .entry)) at (now (t .entry)) lane) ⌝ }
+{
+    let mut all = true;
+    let mut b: usize = 0;
+    while b < BINS {
+        all = all & same(bank[at + (COUNTS + b)], t[lane + b]);
+        b += 1;
+    }
+    all
+}
+
+fn all_borne_out(bank: &[u16], from: usize, t: &[u8; ROWS_LEN]) -> bool
+    requires { ⌜ (from ≤ 300000) × (from + 8 * channelLen ≤ length (now bank)) ⌝ }
+    ensures { λ r. ⌜ (r ≡ true → (k : ℕ) → k < 8 → allBelow bins (isBorneOut (now (bank .entry)) (from + channelLen * k) (now (t .entry)) (k * bins)) ≡ true) ⌝ }
+{
+    let mut k: usize = 0;
+    while k < 8 {
+        if !borne_out(bank, from + CHANNEL_LEN * k, t, k * BINS) {
+            return false;
+        }
+        k += 1;
+    }
+    true
+}
+
+fn one_by_one(bank: &[u16], from: usize) -> bool
+    requires { ⌜ (from ≤ 300000) × (from + 8 * channelLen ≤ length (now bank)) ⌝ }
+    ensures { λ r. ⌜ (r ≡ true → (k : ℕ) → k < 8 → soundChannel (chanOf (chanAt from (now (bank .entry)) k)) ≡ true) ⌝ }
+{
+    let mut k: usize = 0;
+    while k < 8 {
+        let a = from + CHANNEL_LEN * k;
+        let e = a + CHANNEL_LEN;
+        if !channel_sound(&bank[a..e]) {
+            return false;
+        }
+        k += 1;
+    }
+    true
+}
+
+// Whether the eight channels that begin at a place of the store are sound. What it says of sound ones is relied on; of others it says no more
+// than that they have to be asked one by one.
+pub fn eight_sound(bank: &[u16], from: usize) -> bool
+    requires { ⌜ (from ≤ 300000) × (from + 8 * channelLen ≤ length (now bank)) ⌝ }
+    ensures { λ r. ⌜ (r ≡ true → (k : ℕ) → k < 8 → soundChannel (chanOf (chanAt from (now (bank .entry)) k)) ≡ true) ⌝ }
+{
+    if !all_ready(bank, from) {
+        return one_by_one(bank, from);
+    }
+    let mut t = [0u8; ROWS_LEN];
+    count_rows(&mut t, bank, from);
+    all_borne_out(bank, from, &t)
 }
