@@ -241,18 +241,35 @@ pub fn channel_sound(chan: &[u16]) -> bool
 // them, however often a ring has the same bin, and there is nothing to add up.
 const ROWS_LEN: usize = 8 * BINS;
 
-// Whether the ring is full, and all but the counts is sound. A ring of one bin, as it seems, is left to the quicker test of a single channel.
-fn is_ready(chan: &[u16]) -> bool
+// A ring of one bin, as its first entry's count has it. Nothing is concluded from it but which way is the quicker.
+fn seems_of_one_bin(chan: &[u16]) -> bool
     requires { ⌜ length (now chan) ≡ channelLen ⌝ }
-    ensures { λ r. ⌜ (r ≡ true → Ready (now (chan .entry))) ⌝ }
 {
     let first = chan[0];
     if first >= BINS_U16 {
         return false;
     }
-    if chan[COUNTS + first as usize] == RING_LEN_U16 {
+    chan[COUNTS + first as usize] == RING_LEN_U16
+}
+
+// Silence, as the first and the last of the eight have it: then each is told by the quicker test of a single channel.
+fn seems_silent(bank: &[u16], from: usize) -> bool
+    requires { ⌜ (from ≤ 300000) × (from + 8 * channelLen ≤ length (now bank)) ⌝ }
+{
+    let e = from + CHANNEL_LEN;
+    if !seems_of_one_bin(&bank[from..e]) {
         return false;
     }
+    let last = from + CHANNEL_LEN * 7;
+    let end = last + CHANNEL_LEN;
+    seems_of_one_bin(&bank[last..end])
+}
+
+// Whether the ring is full, and all but the counts is sound.
+fn is_ready(chan: &[u16]) -> bool
+    requires { ⌜ length (now chan) ≡ channelLen ⌝ }
+    ensures { λ r. ⌜ (r ≡ true → Ready (now (chan .entry))) ⌝ }
+{
     let entries = chan[FILLED];
     if entries != RING_LEN_U16 {
         return false;
@@ -370,6 +387,9 @@ pub fn eight_sound(bank: &[u16], from: usize) -> bool
     requires { ⌜ (from ≤ 300000) × (from + 8 * channelLen ≤ length (now bank)) ⌝ }
     ensures { λ r. ⌜ (r ≡ true → (k : ℕ) → k < 8 → soundChannel (chanOf (chanAt from (now (bank .entry)) k)) ≡ true) ⌝ }
 {
+    if seems_silent(bank, from) {
+        return one_by_one(bank, from);
+    }
     if !all_ready(bank, from) {
         return one_by_one(bank, from);
     }
