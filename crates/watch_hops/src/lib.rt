@@ -1,4 +1,7 @@
 // The hops of a recording or a log: batch by batch, or one after another, each read, heard, told and counted.
+ghost use mathlib.Core.Path.{_≡_};
+ghost use mathlib.Core.Bool.{not, _&&_};
+ghost use lib.Dec.{eqb};
 use laws::least;
 use laws::wide;
 use watch_follow::follow;
@@ -11,8 +14,16 @@ use watch_words::Settings;
 
 // A run doesn't carry the store of the worst floor of late, nor show the spectral reference after each of its hops; and the hops of a log are
 // of differing size.
-fn is_by_runs(s: Settings) -> bool {
-    !s.is_log && s.worst == 0 && !s.has_reference
+fn is_by_runs(s: Settings) -> bool
+    ensures { λ r. ⌜ r ≡ (not (s .«is_log») && (eqb (s .worst) 0 && not (s .«has_reference»))) ⌝ }
+{
+    if s.is_log {
+        return false;
+    }
+    if s.worst != 0 {
+        return false;
+    }
+    !s.has_reference
 }
 
 pub fn watch_hops(

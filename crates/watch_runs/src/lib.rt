@@ -230,7 +230,7 @@ fn take_values(
 {
     watch_batch::take_values(bytes, n, k, hold, db, power);
     if s.is_linear {
-        watch_decibels::work_out(db, power);
+        watch_decibels::work_out_hops(k, db, power);
     }
 }
 

@@ -1,21 +1,16 @@
+-- `watch_batch::db_after` meets its contract. Assumes nothing.
 use mathlib.Core.Path.{_∙_}
 use Rattle.watch_batch.proofs.Batches.{later}
 use borrow.Author.Needs.{needs}
 use Rattle.watch_batch.proofs.db_after.Statement.{statement}
 use Rattle.watch_batch.proofs.db_after.Tie as tie
-use Rattle.watch_batch.proofs.db_after.Reads as reads
-use Rattle.watch_batch.proofs.db_after.Lts as lts
-use Rattle.powers.proofs.smooth_step.Reads as smooth-step-reads
 
--- src/lib.rt:123:9
 returns : tie.Need-returns
 returns c = search needs
 
--- src/lib.rt:125:5
 smooth-step-requires : tie.Need-smooth-step-requires
 smooth-step-requires c κs = search needs
 
--- src/lib.rt:119:1
 returns-2 : tie.Need-returns-2
 returns-2 c = c .smooth-step .ensures ∙ later _ _ _ (c .before .if1 .left)
 

@@ -1,3 +1,4 @@
+-- `watch_batch::db_at` meets its contract. Assumes nothing.
 use mathlib.Core.Path.{sym}
 use native.Mathlib.Omega.{arith}
 use lib.ListN.{List·getD-eq-default}
@@ -7,22 +8,16 @@ use Rattle.model.specs.Numbers.{f0}
 use borrow.Author.Needs.{needs}
 use Rattle.watch_batch.proofs.db_at.Statement.{statement}
 use Rattle.watch_batch.proofs.db_at.Tie as tie
-use Rattle.watch_batch.proofs.db_at.Reads as reads
-use Rattle.watch_batch.proofs.db_at.Lts as lts
 
--- src/lib.rt:114:9
 returns : tie.Need-returns
 returns c = sym (List·getD-eq-default (c .before .args .list .now) f0 (omega arith))
 
--- src/lib.rt:116:5
 mul-result : tie.Need-mul-result
 mul-result c = search needs
 
--- src/lib.rt:116:5
 shared-slice-read-result : tie.Need-shared-slice-read-result
 shared-slice-read-result c = search needs
 
--- src/lib.rt:110:1
 returns-2 : tie.Need-returns-2
 returns-2 c = getD-any (c .before .before .args .list .now) (c .before .before .args .k) nan f0 (omega arith)
 

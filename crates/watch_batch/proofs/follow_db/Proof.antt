@@ -1,4 +1,5 @@
-use mathlib.Core.Path.{_≡_, refl, ap, ap₂, _∙_}
+-- `watch_batch::follow_db` meets its contract. Assumes nothing.
+use mathlib.Core.Path.{_≡_, refl, ap₂, _∙_}
 use mathlib.Core.List.{List}
 use Prim.Native.Nat.{ℕ, _-_}
 use native.Mathlib.Omega.{arith}
@@ -10,10 +11,6 @@ use Rattle.laws.proofs.Fills.{Filled, begins, unwritten, turns, done}
 use borrow.Author.Needs.{needs}
 use Rattle.watch_batch.proofs.follow_db.Statement.{statement}
 use Rattle.watch_batch.proofs.follow_db.Tie as tie
-use Rattle.watch_batch.proofs.follow_db.Reads as reads
-use Rattle.watch_batch.proofs.follow_db.Lts as lts
-use Rattle.watch_batch.proofs.db_after.Reads as db-after-reads
-use Rattle.watch_batch.proofs.db_at.Reads as db-at-reads
 
 abbrev entry : ℕ → List Float → List Float → ℕ → Float
 entry started s db k = dbAfter started (getD s k f0) (getD db k f0)
@@ -24,43 +21,33 @@ Inv-loop started smooth₀ db k₀ k-end smooth k = (k-end ≡ length smooth₀)
 abbrev μ-loop : tie.MeasureT-loop
 μ-loop started smooth₀ db k₀ k-end smooth k = k-end - k
 
--- src/lib.rt:131:5
 loop-holds : tie.Need-loop-holds Inv-loop μ-loop
 loop-holds c = (refl, begins _ _)
 
--- src/lib.rt:132:39
 mul-db-after : tie.Need-mul-db-after Inv-loop μ-loop
 mul-db-after c = search needs
 
--- src/lib.rt:132:39
 slice-read-db-after : tie.Need-slice-read-db-after Inv-loop μ-loop
 slice-read-db-after c = search needs
 
--- src/lib.rt:132:50
 db-at-requires : tie.Need-db-at-requires Inv-loop μ-loop
 db-at-requires c κs = search needs
 
--- src/lib.rt:132:21
 db-after-requires : tie.Need-db-after-requires Inv-loop μ-loop
 db-after-requires c κs = search needs
 
--- src/lib.rt:132:9
 mul-smooth : tie.Need-mul-smooth Inv-loop μ-loop
 mul-smooth c = search needs
 
--- src/lib.rt:132:9
 slice-write-smooth : tie.Need-slice-write-smooth Inv-loop μ-loop
 slice-write-smooth c = search needs
 
--- src/lib.rt:131:9
 add-k : tie.Need-add-k Inv-loop μ-loop
 add-k c = search needs
 
--- src/lib.rt:131:5
 loop-less : tie.Need-loop-less Inv-loop μ-loop
 loop-less c = search needs
 
--- src/lib.rt:131:5
 loop-again : tie.Need-loop-again Inv-loop μ-loop
 loop-again c = let l = c .before .before .before .before in
     let s = l .before .before .before in
@@ -71,11 +58,9 @@ loop-again c = let l = c .before .before .before .before in
           ∙ ap₂ (dbAfter (s .args .started)) (unwritten (s .args .smooth .now) e (l .loop .k) (l .loop .smooth) nan f0 (l .loop .inv .1) (omega arith)) (c .before .db-at .ensures)),
     )
 
--- src/lib.rt:128:1
 same-length : tie.Need-same-length Inv-loop μ-loop
 same-length c = search needs
 
--- src/lib.rt:128:1
 returns : tie.Need-returns Inv-loop μ-loop
 returns c = let l = c .before in
     let s = l .before .before .before in

@@ -1,17 +1,15 @@
-use mathlib.Core.Path.{_≡_, refl, ap, ap₂, _∙_}
+-- `watch_batch::keep_db` meets its contract. Assumes nothing.
+use mathlib.Core.Path.{_≡_, refl}
 use mathlib.Core.List.{List}
 use Prim.Native.Nat.{ℕ, _-_}
 use native.Mathlib.Omega.{arith}
 use lib.ListN.{length, getD}
-use lib.Ieee.{Float, nan}
+use lib.Ieee.{Float}
 use Rattle.model.specs.Numbers.{f0}
 use Rattle.laws.proofs.Fills.{Filled, begins, turns, done}
 use borrow.Author.Needs.{needs}
 use Rattle.watch_batch.proofs.keep_db.Statement.{statement}
 use Rattle.watch_batch.proofs.keep_db.Tie as tie
-use Rattle.watch_batch.proofs.keep_db.Reads as reads
-use Rattle.watch_batch.proofs.keep_db.Lts as lts
-use Rattle.watch_batch.proofs.db_at.Reads as db-at-reads
 
 abbrev entry : List Float → ℕ → Float
 entry f k = getD f k f0
@@ -22,41 +20,32 @@ Inv-loop gate-f smooth₀ k₀ k-end smooth k = (k-end ≡ length smooth₀) × 
 abbrev μ-loop : tie.MeasureT-loop
 μ-loop gate-f smooth₀ k₀ k-end smooth k = k-end - k
 
--- src/lib.rt:168:5
 loop-holds : tie.Need-loop-holds Inv-loop μ-loop
 loop-holds c = (refl, begins _ _)
 
--- src/lib.rt:169:21
 db-at-requires : tie.Need-db-at-requires Inv-loop μ-loop
 db-at-requires c κs = search needs
 
--- src/lib.rt:169:9
 mul-smooth : tie.Need-mul-smooth Inv-loop μ-loop
 mul-smooth c = search needs
 
--- src/lib.rt:169:9
 slice-write-smooth : tie.Need-slice-write-smooth Inv-loop μ-loop
 slice-write-smooth c = search needs
 
--- src/lib.rt:168:9
 add-k : tie.Need-add-k Inv-loop μ-loop
 add-k c = search needs
 
--- src/lib.rt:168:5
 loop-less : tie.Need-loop-less Inv-loop μ-loop
 loop-less c = search needs
 
--- src/lib.rt:168:5
 loop-again : tie.Need-loop-again Inv-loop μ-loop
 loop-again c = let l = c .before .before in
     let s = l .before .before .before in
     (l .loop .inv .0, turns (s .args .smooth .now) (entry (s .args .gate-f .now)) (l .loop .k) (l .loop .smooth) (c .db-at .result) (l .loop .inv .1) (omega arith) (c .db-at .ensures))
 
--- src/lib.rt:165:1
 same-length : tie.Need-same-length Inv-loop μ-loop
 same-length c = search needs
 
--- src/lib.rt:165:1
 returns : tie.Need-returns Inv-loop μ-loop
 returns c = let l = c .before in
     let s = l .before .before .before in

@@ -1,19 +1,16 @@
+-- `watch_batch::put_db` meets its contract. Assumes nothing.
 use Rattle.laws.specs.Lists.{splice, tab}
-use mathlib.Core.Path.{_≡_, refl, ap, ap₂, _∙_}
+use mathlib.Core.Path.{_≡_, ap, _∙_}
 use mathlib.Core.List.{List}
 use Prim.Native.Nat.{ℕ, _-_, _≤_, min}
 use native.Mathlib.Omega.{arith}
 use lib.ListN.{length, getD}
-use lib.Ieee.{Float, nan}
+use lib.Ieee.{Float}
 use Rattle.model.specs.Numbers.{f0}
 use Rattle.laws.proofs.Fills.{Filled, begins, turns}
 use borrow.Author.Needs.{needs}
 use Rattle.watch_batch.proofs.put_db.Statement.{statement}
 use Rattle.watch_batch.proofs.put_db.Tie as tie
-use Rattle.watch_batch.proofs.put_db.Reads as reads
-use Rattle.watch_batch.proofs.put_db.Lts as lts
-use Rattle.laws.proofs.least.Reads as least-reads
-use Rattle.watch_batch.proofs.db_at.Reads as db-at-reads
 
 abbrev entry : List Float → ℕ → Float
 entry f k = getD f k f0
@@ -24,45 +21,35 @@ Inv-loop gate-f₀ smooth k₀ k-end gate-f k = (k-end ≡ min (length smooth) (
 abbrev μ-loop : tie.MeasureT-loop
 μ-loop gate-f₀ smooth k₀ k-end gate-f k = k-end - k
 
--- src/lib.rt:177:17
 least-requires : tie.Need-least-requires Inv-loop μ-loop
 least-requires c κs = search needs
 
--- src/lib.rt:177:5
 loop-holds : tie.Need-loop-holds Inv-loop μ-loop
 loop-holds c = (c .least .ensures .0, omega arith, begins _ _)
 
--- src/lib.rt:178:21
 db-at-requires : tie.Need-db-at-requires Inv-loop μ-loop
 db-at-requires c κs = search needs
 
--- src/lib.rt:178:9
 mul-gate-f : tie.Need-mul-gate-f Inv-loop μ-loop
 mul-gate-f c = search needs
 
--- src/lib.rt:178:9
 slice-write-gate-f : tie.Need-slice-write-gate-f Inv-loop μ-loop
 slice-write-gate-f c = search needs
 
--- src/lib.rt:177:9
 add-k : tie.Need-add-k Inv-loop μ-loop
 add-k c = search needs
 
--- src/lib.rt:177:5
 loop-less : tie.Need-loop-less Inv-loop μ-loop
 loop-less c = search needs
 
--- src/lib.rt:177:5
 loop-again : tie.Need-loop-again Inv-loop μ-loop
 loop-again c = let l = c .before .before in
     let s = l .before .before .before .before in
     (l .loop .inv .0, omega arith, turns (s .args .gate-f .now) (entry (s .args .smooth .now)) (l .loop .k) (l .loop .gate-f) (c .db-at .result) (l .loop .inv .2) (omega arith) (c .db-at .ensures))
 
--- src/lib.rt:174:1
 same-length : tie.Need-same-length Inv-loop μ-loop
 same-length c = search needs
 
--- src/lib.rt:174:1
 returns : tie.Need-returns Inv-loop μ-loop
 returns c = let l = c .before in
     let s = l .before .before .before .before in

@@ -1,26 +1,21 @@
-use mathlib.Core.Path.{_≡_, sym, ap, subst}
+-- `watch_batch::start_of` meets its contract. Assumes nothing.
+use mathlib.Core.Path.{sym, ap, subst}
 use Prim.Native.Nat.{ℕ, _*_, _%_, _<_}
 use native.Mathlib.Omega.{arith}
 use borrow.Author.Needs.{needs}
 use Rattle.watch_batch.proofs.Batches.{start-small}
 use Rattle.watch_batch.proofs.start_of.Statement.{statement}
 use Rattle.watch_batch.proofs.start_of.Tie as tie
-use Rattle.watch_batch.proofs.start_of.Reads as reads
-use Rattle.watch_batch.proofs.start_of.Lts as lts
-use Rattle.watch_recording.proofs.hop_bytes.Reads as hop-bytes-reads
 
--- src/lib.rt:26:5
 hop-bytes-requires : tie.Need-hop-bytes-requires
 hop-bytes-requires c κs = search needs
 
 small : (c : tie.After-hop-bytes) → c .hop-bytes .result * (c .before .args .hop % 15) < 16777216
 small c = subst (λ (b : ℕ). b * (c .before .args .hop % 15) < 16777216) (sym (c .hop-bytes .ensures)) (start-small (c .before .args .n) (c .before .args .hop % 15) (omega arith) (omega arith))
 
--- src/lib.rt:26:5
 mul-result : tie.Need-mul-result
 mul-result c = omega (arith, small c)
 
--- src/lib.rt:23:1
 returns : tie.Need-returns
 returns c = (ap (λ (b : ℕ). b * (c .before .args .hop % 15)) (c .hop-bytes .ensures), small c)
 

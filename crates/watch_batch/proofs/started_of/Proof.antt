@@ -1,21 +1,17 @@
+-- `watch_batch::started_of` meets its contract. Assumes nothing.
 use mathlib.Core.Path.{sym}
 use native.Mathlib.Omega.{arith}
 use lib.ListN.{List·getD-eq-default}
 use borrow.Author.Needs.{needs}
 use Rattle.watch_batch.proofs.started_of.Statement.{statement}
 use Rattle.watch_batch.proofs.started_of.Tie as tie
-use Rattle.watch_batch.proofs.started_of.Reads as reads
-use Rattle.watch_batch.proofs.started_of.Lts as lts
 
--- src/lib.rt:159:9
 returns : tie.Need-returns
 returns c = sym (List·getD-eq-default (c .before .args .gate .now) 0 (omega arith))
 
--- src/lib.rt:161:5
 shared-slice-read-result : tie.Need-shared-slice-read-result
 shared-slice-read-result c = search needs
 
--- src/lib.rt:155:1
 returns-2 : tie.Need-returns-2
 returns-2 c = search needs
 

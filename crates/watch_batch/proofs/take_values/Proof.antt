@@ -1,3 +1,4 @@
+-- `watch_batch::take_values` is safe and ends. Assumes nothing.
 use mathlib.Core.Path.{_≡_, refl, sym, ap, _∙_}
 use Prim.Native.Nat.{ℕ, _+_, _-_, _*_, _<_, _≤_}
 use native.Mathlib.Nat.{mul-zero}
@@ -8,10 +9,6 @@ use Rattle.watch_batch.proofs.Batches.{next}
 use borrow.Author.Needs.{needs}
 use Rattle.watch_batch.proofs.take_values.Statement.{statement}
 use Rattle.watch_batch.proofs.take_values.Tie as tie
-use Rattle.watch_batch.proofs.take_values.Reads as reads
-use Rattle.watch_batch.proofs.take_values.Lts as lts
-use Rattle.watch_batch.proofs.take_hop.Reads as take-hop-reads
-use Rattle.watch_recording.proofs.hop_bytes.Reads as hop-bytes-reads
 
 abbrev Inv-loop : tie.InvT-loop
 Inv-loop bytes n k hold₀ db₀ power₀ size at₀ to₀ i₀ hold db power at to i =
@@ -20,11 +17,9 @@ Inv-loop bytes n k hold₀ db₀ power₀ size at₀ to₀ i₀ hold db power at
 abbrev μ-loop : tie.MeasureT-loop
 μ-loop bytes n k hold₀ db₀ power₀ size at₀ to₀ i₀ hold db power at to i = length hold₀ - i
 
--- src/lib.rt:113:9
 hop-bytes-requires : tie.Need-hop-bytes-requires Inv-loop μ-loop
 hop-bytes-requires c κs = search needs
 
--- src/lib.rt:117:5
 loop-holds : tie.Need-loop-holds Inv-loop μ-loop
 loop-holds c = (sym (mul-zero _), sym (mul-zero _), omega arith, refl, refl, refl)
 
@@ -47,79 +42,61 @@ fits-values c len e = let l = c .before in
     let s = start l in
     omega (arith, e, l .loop .inv .1, row (s .args .k) (l .loop .i) (length (s .args .hold .now)) (more c))
 
--- src/lib.rt:118:17
 add-e : tie.Need-add-e Inv-loop μ-loop
 add-e c = omega (arith, fits-bytes c)
 
--- src/lib.rt:119:17
 add-f : tie.Need-add-f Inv-loop μ-loop
 add-f c = omega (arith, fits-values c _ (start (c .before) .pre .1))
 
--- src/lib.rt:120:28
 sub-take-hop : tie.Need-sub-take-hop Inv-loop μ-loop
 sub-take-hop c = search needs
 
--- src/lib.rt:120:28
 part-take-hop-start : tie.Need-part-take-hop-start Inv-loop μ-loop
 part-take-hop-start c = search needs
 
--- src/lib.rt:120:28
 part-take-hop-end : tie.Need-part-take-hop-end Inv-loop μ-loop
 part-take-hop-end c = omega (arith, fits-bytes c)
 
--- src/lib.rt:120:46
 mul-take-hop : tie.Need-mul-take-hop Inv-loop μ-loop
 mul-take-hop c = let c′ = c .before in
     omega (arith, fits-values c′ _ (c′ .before .loop .inv .4 ∙ start (c′ .before) .pre .1))
 
--- src/lib.rt:120:46
 sub-take-hop-2 : tie.Need-sub-take-hop-2 Inv-loop μ-loop
 sub-take-hop-2 c = search needs
 
--- src/lib.rt:120:46
 part-take-hop-start-2 : tie.Need-part-take-hop-start-2 Inv-loop μ-loop
 part-take-hop-start-2 c = search needs
 
--- src/lib.rt:120:46
 part-take-hop-end-2 : tie.Need-part-take-hop-end-2 Inv-loop μ-loop
 part-take-hop-end-2 c = let c′ = c .before in
     omega (arith, fits-values c′ _ (c′ .before .loop .inv .4 ∙ start (c′ .before) .pre .1))
 
--- src/lib.rt:120:62
 mul-take-hop-2 : tie.Need-mul-take-hop-2 Inv-loop μ-loop
 mul-take-hop-2 c = let c′ = c .before .before in
     omega (arith, fits-values c′ _ (c′ .before .loop .inv .5 ∙ start (c′ .before) .pre .2))
 
--- src/lib.rt:120:62
 sub-take-hop-3 : tie.Need-sub-take-hop-3 Inv-loop μ-loop
 sub-take-hop-3 c = search needs
 
--- src/lib.rt:120:62
 part-take-hop-start-3 : tie.Need-part-take-hop-start-3 Inv-loop μ-loop
 part-take-hop-start-3 c = search needs
 
--- src/lib.rt:120:62
 part-take-hop-end-3 : tie.Need-part-take-hop-end-3 Inv-loop μ-loop
 part-take-hop-end-3 c = let c′ = c .before .before in
     omega (arith, fits-values c′ _ (c′ .before .loop .inv .5 ∙ start (c′ .before) .pre .2))
 
--- src/lib.rt:120:19
 take-hop-requires : tie.Need-take-hop-requires Inv-loop μ-loop
 take-hop-requires c κs = search needs
 
--- src/lib.rt:120:9
 slice-write-hold : tie.Need-slice-write-hold Inv-loop μ-loop
 slice-write-hold c = search needs
 
--- src/lib.rt:123:9
 add-i : tie.Need-add-i Inv-loop μ-loop
 add-i c = search needs
 
--- src/lib.rt:117:5
 loop-less : tie.Need-loop-less Inv-loop μ-loop
 loop-less c = search needs
 
--- src/lib.rt:117:5
 loop-again : tie.Need-loop-again Inv-loop μ-loop
 loop-again c = let l = c .before .before .before .before .before .before .before .before .before in (
   ap (λ (a : ℕ). a + l .before .hop-bytes .result) (l .loop .inv .0) ∙ sym (next (l .before .hop-bytes .result) (l .loop .i)),
@@ -130,19 +107,15 @@ loop-again c = let l = c .before .before .before .before .before .before .before
   search needs,
 )
 
--- src/lib.rt:103:1
 same-length : tie.Need-same-length Inv-loop μ-loop
 same-length c = search needs
 
--- src/lib.rt:103:1
 same-length-2 : tie.Need-same-length-2 Inv-loop μ-loop
 same-length-2 c = search needs
 
--- src/lib.rt:103:1
 same-length-3 : tie.Need-same-length-3 Inv-loop μ-loop
 same-length-3 c = search needs
 
--- src/lib.rt:103:1
 returns : tie.Need-returns Inv-loop μ-loop
 returns c = search needs
 

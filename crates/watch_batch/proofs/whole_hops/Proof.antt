@@ -1,3 +1,4 @@
+-- `watch_batch::whole_hops` meets its contract. Assumes nothing.
 use Prim.Native.Nat.{_-_, _<_}
 use native.Mathlib.Omega.{arith}
 use lib.ListN.{length}
@@ -5,8 +6,6 @@ use borrow.Author.Needs.{needs}
 use Rattle.watch_batch.proofs.Batches.{Front, front-begins, front-more, front-bad, front-short}
 use Rattle.watch_batch.proofs.whole_hops.Statement.{statement}
 use Rattle.watch_batch.proofs.whole_hops.Tie as tie
-use Rattle.watch_batch.proofs.whole_hops.Reads as reads
-use Rattle.watch_batch.proofs.whole_hops.Lts as lts
 
 abbrev Inv-loop : tie.InvT-loop
 Inv-loop bytes size at₀ i₀ at i = Front bytes size i at × (0 < size)
@@ -14,40 +13,31 @@ Inv-loop bytes size at₀ i₀ at i = Front bytes size i at × (0 < size)
 abbrev μ-loop : tie.MeasureT-loop
 μ-loop bytes size at₀ i₀ at i = length bytes - at
 
--- src/lib.rt:73:5
 loop-holds : tie.Need-loop-holds Inv-loop μ-loop
 loop-holds c = (front-begins _ _, omega arith)
 
--- src/lib.rt:73:19
 sub-loop : tie.Need-sub-loop Inv-loop μ-loop
 sub-loop c = omega (arith, c .loop .inv .0 .within)
 
--- src/lib.rt:74:12
 shared-slice-read-if1 : tie.Need-shared-slice-read-if1 Inv-loop μ-loop
 shared-slice-read-if1 c = search needs
 
--- src/lib.rt:75:13
 returns : tie.Need-returns Inv-loop μ-loop
 returns c = let l = c .before .before .before in front-bad _ _ _ _ (l .loop .inv .0) (c .if1 .taken)
 
--- src/lib.rt:77:9
 add-at : tie.Need-add-at Inv-loop μ-loop
 add-at c = search needs
 
--- src/lib.rt:78:9
 add-i : tie.Need-add-i Inv-loop μ-loop
 add-i c = omega (arith, c .before .before .before .loop .inv .0 .few, c .before .before .before .loop .inv .0 .within)
 
--- src/lib.rt:73:5
 loop-less : tie.Need-loop-less Inv-loop μ-loop
 loop-less c = search needs
 
--- src/lib.rt:73:5
 loop-again : tie.Need-loop-again Inv-loop μ-loop
 loop-again c = let l = c .before .before .before in
     (front-more _ _ _ _ (l .loop .inv .0) (l .loop .inv .1) (omega (arith, l .loop .inv .0 .within)) (c .if1 .left), l .loop .inv .1)
 
--- src/lib.rt:67:1
 returns-2 : tie.Need-returns-2 Inv-loop μ-loop
 returns-2 c = front-short _ _ _ _ (c .before .loop .inv .0) (omega (arith, c .before .loop .inv .0 .within))
 

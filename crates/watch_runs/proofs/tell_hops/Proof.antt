@@ -120,15 +120,15 @@ loop-less c = omega (arith, more (c .before .before .before .before .before .bef
 
 loop-again : tie.Need-loop-again Inv-loop μ-loop
 loop-again c = let l = c .before .before .before .before .before .before .before .before .before .before .before .before .before .before .before .before .before .before .before .before .before .before .before .before .before .before .before .before .before .before .before .before in (
-      ap (λ (a : ℕ). a + length (start l .args .alive .now)) (l .loop .inv .0) ∙ sym (next (length (start l .args .alive .now)) (l .loop .i)),
-      omega (arith, more (c .before .before .before .before .before .before .before .before .before .before .before .before .before .before .before .before .before .before .before .before .before .before .before .before .before .before .before .before .before .before .before)),
-      c .before .before .before .before .before .before .before .before .before .before .before .before .before .before .before .before .before .before .before .before .before .gate-f .given ∙ l .loop .inv .2,
-      c .before .before .before .before .before .before .before .before .before .before .before .before .before .before .before .before .before .before .before .before .before .before .before .before .before .before .smooth .given ∙ l .loop .inv .3,
-      c .before .before .before .before .before .before .before .before .alive .given ∙ l .loop .inv .4,
-      c .before .before .before .before .before .before .alive-hops .given ∙ l .loop .inv .5,
-      c .before .before .before .before .events .given ∙ l .loop .inv .6,
-      c .before .before .rises .given ∙ l .loop .inv .7,
-    )
+  ap (λ (a : ℕ). a + length (start l .args .alive .now)) (l .loop .inv .0) ∙ sym (next (length (start l .args .alive .now)) (l .loop .i)),
+  omega (arith, more (c .before .before .before .before .before .before .before .before .before .before .before .before .before .before .before .before .before .before .before .before .before .before .before .before .before .before .before .before .before .before .before)),
+  c .before .before .before .before .before .before .before .before .before .before .before .before .before .before .before .before .before .before .before .before .before .gate-f .given ∙ l .loop .inv .2,
+  c .before .before .before .before .before .before .before .before .before .before .before .before .before .before .before .before .before .before .before .before .before .before .before .before .before .before .smooth .given ∙ l .loop .inv .3,
+  c .before .before .before .before .before .before .before .before .alive .given ∙ l .loop .inv .4,
+  c .before .before .before .before .before .before .alive-hops .given ∙ l .loop .inv .5,
+  c .before .before .before .before .events .given ∙ l .loop .inv .6,
+  c .before .before .rises .given ∙ l .loop .inv .7,
+)
 
 same-length : tie.Need-same-length Inv-loop μ-loop
 same-length c = c .before .loop .inv .2

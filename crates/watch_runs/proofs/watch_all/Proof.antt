@@ -40,11 +40,12 @@ part-watch-next-end c = omega (arith, c .before .before .before .before .before 
 
 watch-next-requires : tie.Need-watch-next-requires Inv-loop μ-loop
 watch-next-requires c κs = let l = c .before .before .before .before .before .before .before .before .before .before .before .before .before .before .before .before .before .before .before .before .before .before .before .before .before .before in
-    let s = c .before .before .before .before .before .before .before .before .before .before .before .before .before .before .before .before .before .before .before .before .before .before .before .before .before .before .before .before .before .before .before .before .before .before .before .before .before .before .before .before .before .before .before .before .before .before in
-    (still _ _ _ _ _ _ (l .loop .inv .8) (s .pre .0) (l .loop .inv .13) (l .loop .inv .7),
-    still _ _ _ _ _ _ (l .loop .inv .9) (s .pre .1) (l .loop .inv .13) (l .loop .inv .7),
-    still _ _ _ _ _ _ (l .loop .inv .10) (s .pre .2) (l .loop .inv .13) (l .loop .inv .7),
-    still _ _ _ _ _ _ (l .loop .inv .11) (s .pre .3) (l .loop .inv .13) (l .loop .inv .7))
+    let s = c .before .before .before .before .before .before .before .before .before .before .before .before .before .before .before .before .before .before .before .before .before .before .before .before .before .before .before .before .before .before .before .before .before .before .before .before .before .before .before .before .before .before .before .before .before .before in (
+      still _ _ _ _ _ _ (l .loop .inv .8) (s .pre .0) (l .loop .inv .13) (l .loop .inv .7),
+      still _ _ _ _ _ _ (l .loop .inv .9) (s .pre .1) (l .loop .inv .13) (l .loop .inv .7),
+      still _ _ _ _ _ _ (l .loop .inv .10) (s .pre .2) (l .loop .inv .13) (l .loop .inv .7),
+      still _ _ _ _ _ _ (l .loop .inv .11) (s .pre .3) (l .loop .inv .13) (l .loop .inv .7),
+    )
 
 sub-turns : tie.Need-sub-turns Inv-loop μ-loop
 sub-turns c = omega (arith, c .before .before .before .before .before .before .before .before .before .before .before .before .before .before .before .before .before .before .before .before .before .before .before .before .before .before .before .before .before .before .before .before .before .before .before .before .before .before .before .before .before .before .before .before .before .before .before .before .before .before .before .before .before .before .before .before .before .before .loop-test .taken)
@@ -54,24 +55,24 @@ loop-less c = omega (arith, c .before .before .before .before .before .before .b
 
 loop-again : tie.Need-loop-again Inv-loop μ-loop
 loop-again c = let l = c .before .before .before .before .before .before .before .before .before .before .before .before .before .before .before .before .before .before .before .before .before .before .before .before .before .before .before .before .before .before .before .before .before .before .before .before .before .before .before .before .before .before .before .before .before .before .before .before .before .before .before .before .before .before .before .before .before .before .before in (
-      c .before .before .before .before .before .before .before .before .before .before .before .before .before .before .before .before .before .before .before .before .before .before .before .before .before .before .before .before .before .before .before .bank .given ∙ l .loop .inv .0,
-      c .before .before .before .before .before .before .before .before .before .before .before .before .before .before .before .before .before .before .before .before .before .before .before .before .before .before .before .before .before .bank-f .given ∙ l .loop .inv .1,
-      c .before .before .before .before .before .before .before .before .before .before .before .before .before .before .before .before .before .before .before .before .before .before .before .before .before .before .before .worst .given ∙ l .loop .inv .2,
-      c .before .before .before .before .before .before .before .before .before .before .before .before .before .before .before .before .before .before .before .before .before .before .before .before .before .worst-f .given ∙ l .loop .inv .3,
-      c .before .before .before .before .before .before .before .before .before .before .before .before .before .before .before .before .before .before .before .before .before .before .before .gate .given ∙ l .loop .inv .4,
-      c .before .before .before .before .before .before .before .before .before .before .before .before .before .before .before .before .before .before .before .before .before .gate-f .given ∙ l .loop .inv .5,
-      c .before .before .before .before .before .before .before .before .before .before .before .before .before .before .before .before .before .before .before .before .before .before .before .before .before .before .before .before .before .before .before .before .before .before .before .before .before .before .before .before .before .before .before .before .before .before .before .before .before .before .before .before .before .before .bytes .given ∙ l .loop .inv .6,
-      c .before .before .before .before .before .before .before .before .before .before .before .before .before .before .before .before .before .before .before .hold .given ∙ l .loop .inv .7,
-      c .before .before .before .before .before .before .before .before .before .before .before .before .before .before .before .before .before .db .given ∙ l .loop .inv .8,
-      c .before .before .before .before .before .before .before .before .before .before .before .before .before .before .before .power .given ∙ l .loop .inv .9,
-      c .before .before .before .before .before .before .before .before .before .before .before .before .before .rise .given ∙ l .loop .inv .10,
-      c .before .before .before .before .before .before .before .before .before .before .before .drop .given ∙ l .loop .inv .11,
-      c .before .before .before .before .before .before .before .before .before .smooth .given ∙ l .loop .inv .12,
-      c .before .before .before .before .before .before .before .alive .given ∙ l .loop .inv .13,
-      c .before .before .before .before .before .alive-hops .given ∙ l .loop .inv .14,
-      c .before .before .before .events .given ∙ l .loop .inv .15,
-      c .before .rises .given ∙ l .loop .inv .16,
-    )
+  c .before .before .before .before .before .before .before .before .before .before .before .before .before .before .before .before .before .before .before .before .before .before .before .before .before .before .before .before .before .before .before .bank .given ∙ l .loop .inv .0,
+  c .before .before .before .before .before .before .before .before .before .before .before .before .before .before .before .before .before .before .before .before .before .before .before .before .before .before .before .before .before .bank-f .given ∙ l .loop .inv .1,
+  c .before .before .before .before .before .before .before .before .before .before .before .before .before .before .before .before .before .before .before .before .before .before .before .before .before .before .before .worst .given ∙ l .loop .inv .2,
+  c .before .before .before .before .before .before .before .before .before .before .before .before .before .before .before .before .before .before .before .before .before .before .before .before .before .worst-f .given ∙ l .loop .inv .3,
+  c .before .before .before .before .before .before .before .before .before .before .before .before .before .before .before .before .before .before .before .before .before .before .before .gate .given ∙ l .loop .inv .4,
+  c .before .before .before .before .before .before .before .before .before .before .before .before .before .before .before .before .before .before .before .before .before .gate-f .given ∙ l .loop .inv .5,
+  c .before .before .before .before .before .before .before .before .before .before .before .before .before .before .before .before .before .before .before .before .before .before .before .before .before .before .before .before .before .before .before .before .before .before .before .before .before .before .before .before .before .before .before .before .before .before .before .before .before .before .before .before .before .before .bytes .given ∙ l .loop .inv .6,
+  c .before .before .before .before .before .before .before .before .before .before .before .before .before .before .before .before .before .before .before .hold .given ∙ l .loop .inv .7,
+  c .before .before .before .before .before .before .before .before .before .before .before .before .before .before .before .before .before .db .given ∙ l .loop .inv .8,
+  c .before .before .before .before .before .before .before .before .before .before .before .before .before .before .before .power .given ∙ l .loop .inv .9,
+  c .before .before .before .before .before .before .before .before .before .before .before .before .before .rise .given ∙ l .loop .inv .10,
+  c .before .before .before .before .before .before .before .before .before .before .before .drop .given ∙ l .loop .inv .11,
+  c .before .before .before .before .before .before .before .before .before .smooth .given ∙ l .loop .inv .12,
+  c .before .before .before .before .before .before .before .alive .given ∙ l .loop .inv .13,
+  c .before .before .before .before .before .alive-hops .given ∙ l .loop .inv .14,
+  c .before .before .before .events .given ∙ l .loop .inv .15,
+  c .before .rises .given ∙ l .loop .inv .16,
+)
 
 print-tail-requires : tie.Need-print-tail-requires Inv-loop μ-loop
 print-tail-requires c κs = search needs

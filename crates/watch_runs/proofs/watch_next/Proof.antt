@@ -89,13 +89,14 @@ take-batch-requires c κs = let s = c .before .before .before .before .before .b
     let w = c .before .before .before .before .before .before .before .before .before .before .before .before .before .before .before .before .before .before in
     let e = c .before .before .before .before .before .before .before .before .before .before .before .before .before .before .before .before in
     let long = length-take-le (l .least .result) (s .args .hold .now) (l .least .ensures .1) in
-    let cut : (x : ℕ) → x ≡ length (s .args .alive .now) * l .least .result → x ≡ length (s .args .alive .now) * length (take (l .least .result) (s .args .hold .now)) = λ x p. p ∙ ap (λ (m : ℕ). length (s .args .alive .now) * m) (sym long) in
-    (omega (arith, long, e .if1 .left),
-    enough _ _ _ _ _ _ _ (w .before .hop-bytes .ensures) (l .least .ensures .0) (w .whole-hops .ensures .1) long,
-    cut _ (length-take-le _ (s .args .db .now) (firsts _ _ _ _ (l .least .ensures .1) (s .pre .0))),
-    cut _ (length-take-le _ (s .args .power .now) (firsts _ _ _ _ (l .least .ensures .1) (s .pre .1))),
-    cut _ (length-take-le _ (s .args .rise .now) (firsts _ _ _ _ (l .least .ensures .1) (s .pre .2))),
-    cut _ (length-take-le _ (s .args .drop .now) (firsts _ _ _ _ (l .least .ensures .1) (s .pre .3))))
+    let cut : (x : ℕ) → x ≡ length (s .args .alive .now) * l .least .result → x ≡ length (s .args .alive .now) * length (take (l .least .result) (s .args .hold .now)) = λ x p. p ∙ ap (λ (m : ℕ). length (s .args .alive .now) * m) (sym long) in (
+      omega (arith, long, e .if1 .left),
+      enough _ _ _ _ _ _ _ (w .before .hop-bytes .ensures) (l .least .ensures .0) (w .whole-hops .ensures .1) long,
+      cut _ (length-take-le _ (s .args .db .now) (firsts _ _ _ _ (l .least .ensures .1) (s .pre .0))),
+      cut _ (length-take-le _ (s .args .power .now) (firsts _ _ _ _ (l .least .ensures .1) (s .pre .1))),
+      cut _ (length-take-le _ (s .args .rise .now) (firsts _ _ _ _ (l .least .ensures .1) (s .pre .2))),
+      cut _ (length-take-le _ (s .args .drop .now) (firsts _ _ _ _ (l .least .ensures .1) (s .pre .3))),
+    )
 
 same-length : tie.Need-same-length
 same-length c = c .before .before .before .before .before .before .before .before .before .before .before .before .before .before .before .before .before .before .before .before .before .before .before .before .before .before .before .before .before .before .before .bank .given

@@ -1,5 +1,5 @@
 -- `watch_runs::watch_runs` is safe and ends. Assumes nothing.
-use mathlib.Core.Path.{sym, _∙_}
+use mathlib.Core.Path.{sym}
 use native.Mathlib.Omega.{arith}
 use lib.Seq.{length-take-le}
 use Rattle.watch_runs.proofs.Rows.{fifteen}
@@ -99,11 +99,11 @@ slice-aggregate-watch-all-11 c = sym (length-take-le _ _ (omega arith))
 
 watch-all-requires : tie.Need-watch-all-requires
 watch-all-requires c κs = (
-      fifteen _ _ _ _ (sym (slice-aggregate-watch-all-3 (c .before .before .before .before .before .before .before .before))) (sym (slice-aggregate-watch-all-8 (c .before .before .before))) (sym (slice-aggregate-watch-all-2 (c .before .before .before .before .before .before .before .before .before))),
-      fifteen _ _ _ _ (sym (slice-aggregate-watch-all-4 (c .before .before .before .before .before .before .before))) (sym (slice-aggregate-watch-all-8 (c .before .before .before))) (sym (slice-aggregate-watch-all-2 (c .before .before .before .before .before .before .before .before .before))),
-      fifteen _ _ _ _ (sym (slice-aggregate-watch-all-5 (c .before .before .before .before .before .before))) (sym (slice-aggregate-watch-all-8 (c .before .before .before))) (sym (slice-aggregate-watch-all-2 (c .before .before .before .before .before .before .before .before .before))),
-      fifteen _ _ _ _ (sym (slice-aggregate-watch-all-6 (c .before .before .before .before .before))) (sym (slice-aggregate-watch-all-8 (c .before .before .before))) (sym (slice-aggregate-watch-all-2 (c .before .before .before .before .before .before .before .before .before))),
-    )
+  fifteen _ _ _ _ (sym (slice-aggregate-watch-all-3 (c .before .before .before .before .before .before .before .before))) (sym (slice-aggregate-watch-all-8 (c .before .before .before))) (sym (slice-aggregate-watch-all-2 (c .before .before .before .before .before .before .before .before .before))),
+  fifteen _ _ _ _ (sym (slice-aggregate-watch-all-4 (c .before .before .before .before .before .before .before))) (sym (slice-aggregate-watch-all-8 (c .before .before .before))) (sym (slice-aggregate-watch-all-2 (c .before .before .before .before .before .before .before .before .before))),
+  fifteen _ _ _ _ (sym (slice-aggregate-watch-all-5 (c .before .before .before .before .before .before))) (sym (slice-aggregate-watch-all-8 (c .before .before .before))) (sym (slice-aggregate-watch-all-2 (c .before .before .before .before .before .before .before .before .before))),
+  fifteen _ _ _ _ (sym (slice-aggregate-watch-all-6 (c .before .before .before .before .before))) (sym (slice-aggregate-watch-all-8 (c .before .before .before))) (sym (slice-aggregate-watch-all-2 (c .before .before .before .before .before .before .before .before .before))),
+)
 
 same-length : tie.Need-same-length
 same-length c = c .before .before .before .before .before .before .before .before .before .before .before .before .before .before .before .before .before .before .before .before .before .before .bank .given
