@@ -1,1 +1,2 @@
 pub mod AsCalls
+pub mod Whole

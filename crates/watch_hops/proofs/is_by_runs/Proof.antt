@@ -7,10 +7,10 @@ returns : tie.Need-returns
 returns c = simp (c .if1 .taken)
 
 returns-2 : tie.Need-returns-2
-returns-2 c = simp (c .before .if1 .left, ne-eqb _ _ (c .if2 .taken))
+returns-2 c = simp (c .before .before .if1 .left, ne-eqb _ _ (c .if2 .taken))
 
 returns-3 : tie.Need-returns-3
-returns-3 c = simp (c .before .if1 .left, c .if2 .left)
+returns-3 c = simp (c .before .before .before .if1 .left, c .before .if2 .left)
 
 pub is-by-runs-spec : {M : Type 1} → statement M
 is-by-runs-spec = tie.close (tie.spec returns returns-2 returns-3)
