@@ -27,9 +27,10 @@ AllTaken n s (h ∷ hs) = Taken n s h × AllTaken n (hopLeft s h) hs
 all-taken : (n : ℕ) (hs : List RunHop) (s : Stores) → Fit n s → AllLong n hs → garbledRun n (getD (s .bu) 1 0) hs ≡ false → AllTaken n s hs
 all-taken n [] s v l g = tt
 all-taken n (h ∷ hs) s v l g =
-    let c = first-clear n s h hs g in
-    (record { fit = v; long = l .0; clear = c },
-    all-taken n hs (hopLeft s h) (hop-fits n s v h (l .0) c) (l .1) (ap (λ (q : ℕ). garbledRun n q hs) (hop-phase n s v h (l .0) c) ∙ rest-clear n s h hs g))
+    let c = first-clear n s h hs g in (
+      record { fit = v; long = l .0; clear = c },
+      all-taken n hs (hopLeft s h) (hop-fits n s v h (l .0) c) (l .1) (ap (λ (q : ℕ). garbledRun n q hs) (hop-phase n s v h (l .0) c) ∙ rest-clear n s h hs g),
+    )
 
 run-taken : (s : Stores) (r : Run) → refusalOn s r ≡ 0 → AllTaken (getD (s .gu) 0 0) s (hopsIn s r)
 run-taken s r e =
