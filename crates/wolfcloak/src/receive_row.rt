@@ -21,5 +21,15 @@ pub extern "C" fn wolfcloak_receive(
     if !roles::may(roles::UPDATING, role) {
         return roles::STOPPED;
     }
-    receive::receive(bank, bank_f, gate, gate_f, hold, power_db, power, rise, drop)
+    receive::receive(
+        bank,
+        bank_f,
+        gate,
+        gate_f,
+        hold,
+        power_db,
+        power,
+        rise,
+        drop,
+    )
 }
