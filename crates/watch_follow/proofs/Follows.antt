@@ -8,7 +8,7 @@ use Rattle.watch_recording.specs.declared.Place.{Place}
 use Rattle.watch_recording.specs.Recording.{placeAfter}
 use Rattle.watch_states.specs.States.{risesAfter, eventsAfter, hopClosed, hopTaken}
 use Rattle.watch_hear.specs.declared.Heard.{Heard}
-use Rattle.watch_hops.specs.Followed.{isTaken, takenBytes, stopped, Follows, afterHop, followedBy, followed}
+use Rattle.watch_follow.specs.Followed.{isTaken, takenBytes, stopped, Follows, afterHop, followedBy, followed}
 
 module _ (p : Place) (size : ℕ) (alive hops events rises rise drop : List ℕ) where
   pub took : (r : Place) (slow : Bool) (a h e told counts : List ℕ) → counts ≡ risesAfter rises alive rise drop → told ≡ eventsAfter events alive rise drop

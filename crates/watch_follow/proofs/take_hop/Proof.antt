@@ -1,8 +1,8 @@
--- `watch_hops::take_hop` meets its contract: rises and events by the states before the hop. Assumes nothing.
+-- `watch_follow::take_hop` meets its contract: rises and events by the states before the hop. Assumes nothing.
 use borrow.Author.Needs.{needs}
-use Rattle.watch_hops.proofs.Follows.{took}
-use Rattle.watch_hops.proofs.take_hop.Statement.{statement}
-use Rattle.watch_hops.proofs.take_hop.Tie as tie
+use Rattle.watch_follow.proofs.Follows.{took}
+use Rattle.watch_follow.proofs.take_hop.Statement.{statement}
+use Rattle.watch_follow.proofs.take_hop.Tie as tie
 
 count-rises-requires : tie.Need-count-rises-requires
 count-rises-requires c κs = search needs

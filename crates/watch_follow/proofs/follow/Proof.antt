@@ -1,9 +1,9 @@
--- `watch_hops::follow` meets its contract: what is not taken changes nothing. Assumes nothing.
+-- `watch_follow::follow` meets its contract: what is not taken changes nothing. Assumes nothing.
 use borrow.Author.Needs.{needs}
 use borrow.Author.Tests.{not-true, not-false}
-use Rattle.watch_hops.proofs.Follows.{stops, goes}
-use Rattle.watch_hops.proofs.follow.Statement.{statement}
-use Rattle.watch_hops.proofs.follow.Tie as tie
+use Rattle.watch_follow.proofs.Follows.{stops, goes}
+use Rattle.watch_follow.proofs.follow.Statement.{statement}
+use Rattle.watch_follow.proofs.follow.Tie as tie
 
 is-taken-requires : tie.Need-is-taken-requires
 is-taken-requires c κs = search needs

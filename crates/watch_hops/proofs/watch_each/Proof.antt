@@ -1,10 +1,10 @@
--- `watch_hops::watch_hops` is safe and ends. Assumes nothing.
+-- `watch_hops::watch_each` is safe and ends. Assumes nothing.
 use mathlib.Core.Path.{sym}
 use native.Mathlib.Omega.{arith}
 use lib.Seq.{length-take-le}
 use borrow.Author.Needs.{needs}
-use Rattle.watch_hops.proofs.watch_hops.Statement.{statement}
-use Rattle.watch_hops.proofs.watch_hops.Tie as tie
+use Rattle.watch_hops.proofs.watch_each.Statement.{statement}
+use Rattle.watch_hops.proofs.watch_each.Tie as tie
 
 wide-requires : tie.Need-wide-requires
 wide-requires c κs = search needs
@@ -96,8 +96,8 @@ same-length-6 c = c .before .before .before .before .before .before .before .bef
 returns : tie.Need-returns
 returns c = search needs
 
-pub watch-hops-spec : {M : Type 1} → statement M
-watch-hops-spec =
+pub watch-each-spec : {M : Type 1} → statement M
+watch-each-spec =
     tie.close
     (tie.spec
     wide-requires
