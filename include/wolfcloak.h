@@ -13,7 +13,7 @@
  * A bank is made once, by wolfcloak_bank_new, and fed one hop at a time (375 a second). Every 15th hop, the first among
  * them, is a slow hop: it steps the floors. A gate of the same n is made once, by wolfcloak_gate_new, and fed the same hops after
  * the bank: it marks which channels rise and drop. The stores may be copied or kept over a power loss; the two of a bank belong
- * together, and the two of a gate.
+ * together, and the two of a gate. Both at once are fed many hops in one call by wolfcloak_receive, which tests the stores once for all of them.
  */
 #ifndef WOLFCLOAK_H
 #define WOLFCLOAK_H
@@ -32,7 +32,7 @@ extern "C" {
 #define WOLFCLOAK_REFUSED_STORE_SIZE 2 /* a store's length isn't the one for its n */
 #define WOLFCLOAK_REFUSED_LENGTHS 3    /* making a gate: no window length, over 8, or one outside 1..375 */
 #define WOLFCLOAK_REFUSED_LEVEL 4      /* making or remaking a gate: a level outside -800..800 eighths of a dB, and not an absent early */
-#define WOLFCLOAK_REFUSED_HOP_SIZE 5   /* a hop or output slice isn't n long */
+#define WOLFCLOAK_REFUSED_HOP_SIZE 5   /* a hop or output slice isn't n long; of a run, n times its number of hops */
 #define WOLFCLOAK_REFUSED_GARBLED 6    /* a slow hop with a NaN dB in a block of two or more channels */
 #define WOLFCLOAK_REFUSED_CHANNEL 7    /* channel number n or more */
 #define WOLFCLOAK_REFUSED_MISMATCH 8   /* stores lent together differ in n */
@@ -62,6 +62,7 @@ extern "C" {
  *                 updates: bank_update, bank_update_holding_reference, bank_update_worst, bank_update_linear, bank_update_linear_worst,
  *                 gate_update, gate_update_map, gate_update_linear, gate_update_linear_map
  *                 holds: gate_hold, gate_hold_map
+ *                 updates and holds, a run of hops at once: receive
  *                 reads, writes and combines logs: log_channels, log_read, log_write, log_combine
  *                 serves segments: dispatch
  *   no role       bank_len, bank_f_len, gate_f_len, worst_f_len, map_len; power_db
@@ -213,6 +214,33 @@ uint16_t wolfcloak_smoothed_db(uint16_t role, const uint16_t *gate, size_t gate_
 uint16_t wolfcloak_ema_rise(uint16_t role, const uint16_t *bank, size_t bank_len, const double *bank_f, size_t bank_f_len,
                             const uint16_t *gate, size_t gate_len, const double *gate_f, size_t gate_f_len,
                             size_t k, double *value);
+
+/* ---- a run of hops: bank and gate fed many hops in one call ---- */
+
+/*
+ * A run of hold_len hops; the other slices are hold_len times n long, hop after hop: channel k of hop i is at i * n + k. For each hop in
+ * turn, where hold[i] is 0: wolfcloak_bank_update and then wolfcloak_gate_update with that hop; where it is anything else, for a hop of
+ * static: wolfcloak_bank_update_holding_reference, holding, and then wolfcloak_gate_hold. The marks of each hop go to its n places of
+ * rise and drop. Stores and marks are what those single calls would leave. So a run may begin and end at any hop, and runs and single calls
+ * may follow one another on the same stores.
+ *
+ * Refuses with 2 or 9 for the bank's stores, then for the gate's, then 8, then 5 for the length of any slice, then 6 if the bank would
+ * refuse one of the run's slow hops, held or not. A refusal changes nothing of the whole run: no hop of it was heard. After a 6, feed its
+ * hops by single calls, which refuse the garbled one alone, or leave that hop out and hand in the run again. A run of no hops makes the
+ * same checks, changes nothing and answers 0.
+ *
+ * When to use which: nearly all of a single call's time is the test of the stores, and a run makes it once for all its hops. Feed runs
+ * where hops can be collected first: from a recording, or from a buffer of 25 hops or more, whose first hop's marks then come 1/15 of a
+ * second late. Feed single calls where every hop's marks are wanted at once.
+ *
+ * A run carries neither the store of the worst floor of late nor a map of registers, both below. A set that uses one of them is fed by
+ * single calls: hops of a run would be missing in it.
+ */
+uint16_t wolfcloak_receive(uint16_t role, uint16_t *bank, size_t bank_len, double *bank_f, size_t bank_f_len,
+                           uint16_t *gate, size_t gate_len, double *gate_f, size_t gate_f_len,
+                           const uint8_t *hold, size_t hold_len,
+                           const double *power_db, size_t power_db_len, const float *power, size_t power_len,
+                           uint8_t *rise, size_t rise_len, uint8_t *drop, size_t drop_len);
 
 /* ---- the worst floor of late: how bad the noise has been ---- */
 

@@ -1,5 +1,6 @@
 //! A complete small receiver loop over the safe wrapper: noise on eight channels, a tone that comes and goes on one of them, and a
-//! static crash during which the gate holds. The receiver acts as technician; at the end a keeper tries to feed a hop.
+//! static crash during which the gate holds. Beside it a second set collects the same hops and is fed them by runs: its marks are the same.
+//! The receiver acts as technician; at the end a keeper tries to feed a hop.
 mod wolfcloak;
 
 use wolfcloak::{Bank, Gate, Refusal, Role};
@@ -7,6 +8,9 @@ use wolfcloak::{Bank, Gate, Refusal, Role};
 const ME: Role = Role::Technician;
 const CHANNELS: usize = 8;
 const TONE: usize = 3;
+/// How many hops the second set collects.
+const BATCH: usize = 25;
+const HOPS: usize = 1500;
 
 /// A small generator, so that the program prints the same everywhere.
 struct Noise(u32);
@@ -30,12 +34,43 @@ fn hear(hop: usize, crash: bool, noise: &mut Noise) -> ([f64; CHANNELS], [f32; C
     (db, power)
 }
 
+/// On 6 dB and off 3 dB over the floor, no early rise.
+fn set() -> Result<(Bank, Gate), Refusal> {
+    Ok((Bank::new(ME, CHANNELS)?, Gate::new(ME, CHANNELS, 48, 24, None, &[15, 75])?))
+}
+
+/// Hops that were collected, one after another, with the marks that single calls gave.
+#[derive(Default)]
+struct Collected {
+    hold: Vec<u8>,
+    db: Vec<f64>,
+    power: Vec<f32>,
+    rise: Vec<u8>,
+    drop: Vec<u8>,
+}
+
+impl Collected {
+    fn add(&mut self, hold: bool, (db, power): (&[f64], &[f32]), (rise, drop): (&[u8], &[u8])) {
+        self.hold.push(hold as u8);
+        self.db.extend(db);
+        self.power.extend(power);
+        self.rise.extend(rise);
+        self.drop.extend(drop);
+    }
+
+    /// Feeds them as a run; whether it gives the same marks.
+    fn feed(&self, (bank, gate): &mut (Bank, Gate)) -> Result<bool, Refusal> {
+        let (mut rise, mut drop) = (vec![0; self.rise.len()], vec![0; self.drop.len()]);
+        gate.receive(ME, bank, &self.hold, &self.db, &self.power, &mut rise, &mut drop)?;
+        Ok(rise == self.rise && drop == self.drop)
+    }
+}
+
 fn run() -> Result<(), Refusal> {
-    let mut bank = Bank::new(ME, CHANNELS)?;
-    // on 6 dB and off 3 dB over the floor, no early rise
-    let mut gate = Gate::new(ME, CHANNELS, 48, 24, None, &[15, 75])?;
+    let (mut bank, mut gate) = set()?;
+    let (mut by_runs, mut collected, mut same) = (set()?, Collected::default(), 0);
     let (mut noise, mut alive) = (Noise(1), [false; CHANNELS]);
-    for hop in 0..1500 {
+    for hop in 0..HOPS {
         let crash = (300..310).contains(&hop);
         let (db, power) = hear(hop, crash, &mut noise);
         let (mut rise, mut drop) = ([0; CHANNELS], [0; CHANNELS]);
@@ -44,6 +79,11 @@ fn run() -> Result<(), Refusal> {
             gate.hold(ME, &bank, &mut rise, &mut drop)?;
         } else {
             gate.update(ME, &bank, &db, &power, &mut rise, &mut drop)?;
+        }
+        collected.add(crash, (&db, &power), (&rise, &drop));
+        if collected.hold.len() == BATCH {
+            same += collected.feed(&mut by_runs)? as usize;
+            collected = Collected::default();
         }
         for k in 0..CHANNELS {
             let now = if alive[k] { drop[k] == 0 || rise[k] == 1 } else { rise[k] == 1 };
@@ -60,6 +100,7 @@ fn run() -> Result<(), Refusal> {
             }
         }
     }
+    println!("{same} of {} runs of {BATCH} hops gave the marks of the single calls", HOPS / BATCH);
     println!("a channel that is not there: {:?}", bank.floors(ME, CHANNELS));
     println!("a keeper's hop: {:?}", bank.update(Role::Keeper, &[0.0; CHANNELS], &[0.0; CHANNELS], false));
     Ok(())

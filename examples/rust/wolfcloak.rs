@@ -188,6 +188,44 @@ impl Gate {
         answer(number, ())
     }
 
+    /// A run of as many hops as `hold` is long, the other slices hop after hop: the bank's update and then this gate's with each, or, where
+    /// its `hold` is not 0, the bank's that holds the reference and then a hold. All of them, or none: a refusal leaves the whole run undone.
+    pub fn receive(
+        &mut self,
+        role: Role,
+        bank: &mut Bank,
+        hold: &[u8],
+        power_db: &[f64],
+        power: &[f32],
+        rise: &mut [u8],
+        drop: &mut [u8],
+    ) -> Result<(), Refusal> {
+        let number = unsafe {
+            wolfcloak_receive(
+                role as u16,
+                bank.words.as_mut_ptr(),
+                bank.words.len(),
+                bank.floats.as_mut_ptr(),
+                bank.floats.len(),
+                self.words.as_mut_ptr(),
+                self.words.len(),
+                self.floats.as_mut_ptr(),
+                self.floats.len(),
+                hold.as_ptr(),
+                hold.len(),
+                power_db.as_ptr(),
+                power_db.len(),
+                power.as_ptr(),
+                power.len(),
+                rise.as_mut_ptr(),
+                rise.len(),
+                drop.as_mut_ptr(),
+                drop.len(),
+            )
+        };
+        answer(number, ())
+    }
+
     pub fn smoothed_db(&self, role: Role, k: usize) -> Result<f64, Refusal> {
         let mut value = 0.0;
         let number = unsafe {
@@ -276,6 +314,27 @@ extern "C" {
         gate_len: usize,
         gate_f: *mut f64,
         gate_f_len: usize,
+        rise: *mut u8,
+        rise_len: usize,
+        drop: *mut u8,
+        drop_len: usize,
+    ) -> u16;
+    fn wolfcloak_receive(
+        role: u16,
+        bank: *mut u16,
+        bank_len: usize,
+        bank_f: *mut f64,
+        bank_f_len: usize,
+        gate: *mut u16,
+        gate_len: usize,
+        gate_f: *mut f64,
+        gate_f_len: usize,
+        hold: *const u8,
+        hold_len: usize,
+        power_db: *const f64,
+        power_db_len: usize,
+        power: *const f32,
+        power_len: usize,
         rise: *mut u8,
         rise_len: usize,
         drop: *mut u8,

@@ -24,6 +24,7 @@ mod numbers;
 mod plain_antennas;
 #[path = "../compare/plain_log.rs"]
 mod plain_log;
+mod receive;
 mod registers;
 #[path = "../compare/wolfcloak.rs"]
 mod wolfcloak;
@@ -117,6 +118,32 @@ fn silence_rows(n: usize, rounds: usize) {
     let [ordinary, old_ordinary, tests] = [ordinary, old_ordinary, tests].map(median);
     row("ordinary hop, silence", ordinary, old_ordinary);
     println!("  {:<22} {tests:9.2} µs", "soundness, silence");
+}
+
+/// The soundness test while noise comes in after digital silence: rings of one bin, of one bin but for five entries, half of it, and of
+/// noise alone. A set in a quiet hut must not be the slow one.
+fn mixed_rows(n: usize, rounds: usize) {
+    let (quiet, noisy) = (hops(n, Feed::Silence), hops(n, Feed::Noise));
+    let (mut u, mut f) = FloorBank::new(n).to_stores();
+    assert_eq!(wolfcloak::bank_new(&mut u, &mut f, n), 0);
+    for hop in 0..SETTLING {
+        let (db, power) = &quiet[hop % quiet.len()];
+        assert_eq!(wolfcloak::bank_update(&mut u, &mut f, db, power, None), 0);
+    }
+    let mut hop = 0;
+    let tests = [0, 5, RING_LEN / 2, RING_LEN].map(|entries| {
+        while hop < entries * DECIMATION_HOPS {
+            let (db, power) = &noisy[hop % noisy.len()];
+            assert_eq!(wolfcloak::bank_update(&mut u, &mut f, db, power, None), 0);
+            hop += 1;
+        }
+        let mut value = 0.0;
+        median((0..rounds).map(|_| time(|| wolfcloak::channel_floor_db(&u, &f, 0, &mut value))).collect())
+    });
+    println!("soundness after silence, n = {n}");
+    for (what, test) in ["silence", "five entries noise", "half noise", "noise"].iter().zip(tests) {
+        println!("  {what:<22} {test:9.2} µs   times noise {:7.2}", test / tests[3]);
+    }
 }
 
 const LENGTHS: [u16; 3] = [15, 75, 375];
@@ -229,10 +256,14 @@ fn worst_rows(n: usize, rounds: usize) {
 fn main() {
     bank_rows(32, 2000);
     silence_rows(32, 2000);
+    mixed_rows(32, 5000);
     bank_rows(512, 600);
     silence_rows(512, 600);
+    mixed_rows(512, 1000);
     gate_rows(32, 12);
     gate_rows(512, 6);
+    receive::rows(32, 60);
+    receive::rows(512, 20);
     linear::rows(32, 3000);
     linear::rows(512, 900);
     registers::rows(32, 6);

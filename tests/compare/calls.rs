@@ -6,7 +6,7 @@ use crate::layout::place;
 use crate::linear_rows;
 use crate::rules::{
     refusal, Rule, GATE_FLOATS, GATE_HOLD, GATE_MAKING, GATE_READ, GATE_REMAKING, GATE_SOUND, GATE_STORE, GATE_UPDATE, GATE_UPDATE_LINEAR,
-    MAKING, PAIR, READ, SOUND, STORE, UPDATE, UPDATE_LINEAR,
+    MAKING, PAIR, READ, RECEIVE, SOUND, STORE, UPDATE, UPDATE_LINEAR,
 };
 use crate::tally::Tally;
 use crate::wolfcloak as lib;
@@ -160,6 +160,7 @@ pub fn every_call(t: &mut Tally, what: Arguments, l: &Lent) {
     gate_update(t, format_args!("{what}: gate_update"), l, then(both, &GATE_UPDATE));
     gate_update_linear(t, format_args!("{what}: gate_update_linear"), l, then(both, &GATE_UPDATE_LINEAR));
     gate_hold(t, format_args!("{what}: gate_hold"), l, then(both, &GATE_HOLD));
+    receive(t, format_args!("{what}: receive {:?}", l.hold), l, then(both, &RECEIVE));
     gate_readings(t, what, &c, then(gate, &GATE_READ), then(both, &GATE_READ));
 }
 
@@ -275,6 +276,28 @@ fn gate_hold(t: &mut Tally, what: Arguments, l: &Lent, due: u16) {
     let (stores, marks) = (due == 0).then(held).unzip();
     l.compare_gate(t, what, &l.gate, &f, stores);
     l.compare_marks(t, what, &rise, &drop, marks);
+}
+
+/// A run of one hop; receive.rs has longer ones.
+fn receive(t: &mut Tally, what: Arguments, l: &Lent, due: u16) {
+    let c = l.call();
+    let mut after = l.clone();
+    let is_held = l.hold == Some(true);
+    let bank = (&mut after.u[..l.u_len], &mut after.f[..l.f_len]);
+    let gate = (&mut after.gate[..l.gate_len], &mut after.gate_f[..l.gate_f_len]);
+    let marks = (&mut after.rise[..l.rise_len], &mut after.drop[..l.drop_len]);
+    t.answer(what, lib::receive(bank, gate, (&[is_held as u8], c.db, c.power), marks), due);
+    let heard = || {
+        let (mut bank, mut gate) = (FloorBank::of_stores(c.u, c.f), Gate::of_stores(c.gate, c.gate_f));
+        bank.update_holding_reference(c.db, c.power, is_held);
+        let marks = if is_held { gate.hold(&bank) } else { gate.update(c.db, c.power, &bank) };
+        ((bank.to_stores(), gate.to_stores()), marks)
+    };
+    let (stores, marks) = (due == 0).then(heard).unzip();
+    let (bank, gate) = stores.unzip();
+    l.compare_bank(t, what, &after.u, &after.f, bank);
+    l.compare_gate(t, what, &after.gate, &after.gate_f, gate);
+    l.compare_marks(t, what, &after.rise, &after.drop, marks);
 }
 
 pub const BEFORE: f64 = 12345.678;

@@ -13,6 +13,7 @@ enum Kind {
     Bank,
     Gate,
     Hold,
+    Run,
 }
 
 /// One call, the same for both sets.
@@ -21,6 +22,7 @@ struct Step {
     db: Vec<f64>,
     power: Vec<f32>,
     hold: Option<bool>,
+    holds: Vec<u8>, // of a run, for which dB and power have hop after hop
     carries: bool, // a bank update carries the store of the worst floor
     marks: usize, // how long rise and drop are
     role: u16, // who makes it
@@ -31,7 +33,7 @@ impl Step {
         let (db, power) = (0..n).map(|k| sample(rng, feed, hop, k)).unzip();
         let (hold, carries) = (rng.pick(&[None, Some(false), Some(true)]), rng.one_in(2));
         let role = if rng.one_in(30) { rng.pick(&[KEEPER, LEADER, 3, 65535]) } else { TECHNICIAN }; // none of the others may
-        let mut s = Step { kind, db, power, hold, carries, marks: n, role };
+        let mut s = Step { kind, db, power, hold, holds: vec![], carries, marks: n, role };
         match rng.below(60) {
             0 => drop(s.db.pop()),
             1 => s.power.push(1.0),
@@ -40,6 +42,19 @@ impl Step {
             4 => s.db[rng.below(n)] = any_f64(rng),
             _ => (),
         }
+        s
+    }
+
+    /// A run of at most so many hops: in demand 3's lists, its calls.
+    fn any_run(rng: &mut Rng, n: usize, most: usize, feed: Feed, hop: usize) -> Step {
+        let (mut s, hops) = (Step::any(rng, n, Kind::Run, feed, hop), 1 + rng.below(most));
+        for i in 1..hops {
+            let (db, power): (Vec<f64>, Vec<f32>) = (0..n).map(|k| sample(rng, feed, hop + i, k)).unzip();
+            s.db.extend(db);
+            s.power.extend(power);
+        }
+        s.marks += (hops - 1) * n;
+        s.holds = (0..hops).map(|_| rng.one_in(4) as u8).collect();
         s
     }
 }
@@ -69,10 +84,14 @@ impl Set {
 
     /// With a fresh store of the worst floor of late over so many slow hops.
     fn keeping(mut self, span: usize) -> Set {
-        let n = self.rise.len();
+        let n = self.n();
         self.worst_f = vec![0.0; lib::worst_f_len(n, span)];
         assert_eq!(lib::worst_new(&mut self.worst, &mut self.worst_f, n, span), 0);
         self
+    }
+
+    fn n(&self) -> usize {
+        self.u[0] as usize
     }
 
     fn call(&mut self, s: &Step) -> u16 {
@@ -87,11 +106,15 @@ impl Set {
             Kind::Bank => lib::bank_update(&mut self.u, &mut self.f, &s.db, &s.power, s.hold),
             Kind::Gate => lib::gate_update(bank, (&mut self.gate, &mut self.gate_f), (&s.db, &s.power), marks),
             Kind::Hold => lib::gate_hold(bank, (&self.gate, &mut self.gate_f), marks),
+            Kind::Run => {
+                let (bank, gate) = ((&mut self.u[..], &mut self.f[..]), (&mut self.gate[..], &mut self.gate_f[..]));
+                lib::receive(bank, gate, (&s.holds, &s.db, &s.power), marks)
+            }
         };
         act_as(TECHNICIAN);
         if answer == 0 {
-            self.banks += (s.kind == Kind::Bank) as usize;
-            self.gates += (s.kind == Kind::Gate) as usize;
+            self.banks += (s.kind == Kind::Bank) as usize + s.holds.len();
+            self.gates += (s.kind == Kind::Gate) as usize + s.holds.iter().filter(|&&hold| hold == 0).count();
             if s.kind != Kind::Bank {
                 self.rise = rise;
             }
@@ -125,16 +148,21 @@ impl Set {
             }
             let kind = match (self.banks < banks, self.gates < gates) {
                 (false, false) => return,
-                (true, true) => rng.pick(&[Kind::Bank, Kind::Gate, Kind::Hold]),
+                (true, true) => rng.pick(&[Kind::Bank, Kind::Gate, Kind::Hold, Kind::Run]),
                 (true, false) => rng.pick(&[Kind::Bank, Kind::Bank, Kind::Hold]),
                 (false, true) => rng.pick(&[Kind::Gate, Kind::Gate, Kind::Hold]),
             };
-            self.call(&Step::any(rng, self.rise.len(), kind, feed, hop));
+            let step = if kind == Kind::Run {
+                Step::any_run(rng, self.n(), (banks - self.banks).min(gates - self.gates).min(20), feed, hop)
+            } else {
+                Step::any(rng, self.n(), kind, feed, hop)
+            };
+            self.call(&step);
         }
     }
 
     fn floors(&self) -> Vec<[f64; 3]> {
-        (0..self.rise.len())
+        (0..self.n())
             .map(|k| {
                 let mut three = [0.0; 3];
                 assert_eq!(lib::floors(&self.u, &self.f, k, &mut three), 0);
@@ -172,7 +200,7 @@ impl Pair {
     }
 
     fn call(&mut self, t: &mut Tally, what: Arguments, s: &Step) -> u16 {
-        let was_slow = s.kind == Kind::Bank && self.one.u[1] == 0;
+        let was_slow = s.kind == Kind::Bank && self.one.u[1] == 0 || s.kind == Kind::Run;
         let answer = self.one.call(s);
         t.answer(what, self.other.call(s), answer);
         if answer == 0 && was_slow && self.banks() < SETTLING && !same_floors(&self.one, &self.other) {
@@ -239,8 +267,12 @@ pub fn any_histories(t: &mut Tally, i: usize, rng: &mut Rng) {
         }
         let any = rng.pick(&[Kind::Bank, Kind::Bank, Kind::Bank, Kind::Gate, Kind::Hold]);
         let kind = if pair.gates() < 1500 && hop % 2 == 0 { Kind::Gate } else { any };
-        let step = Step::any(rng, n, kind, feed, hop);
-        if !is_loud && kind == Kind::Bank && !garbled(&step.db) && !step.db.iter().all(|&x| x >= HIST_MIN_DB) {
+        let step = if is_loud && rng.one_in(12) {
+            Step::any_run(rng, n, 20, feed, hop)
+        } else {
+            Step::any(rng, n, kind, feed, hop)
+        };
+        if !is_loud && step.kind == Kind::Bank && !garbled(&step.db) && !step.db.iter().all(|&x| x >= HIST_MIN_DB) {
             continue; // it could be the first accepted slow hop
         }
         if pair.banks() >= SETTLING && pair.gates() >= 1500 {
@@ -250,7 +282,7 @@ pub fn any_histories(t: &mut Tally, i: usize, rng: &mut Rng) {
                 break;
             }
         }
-        let is_slow = kind == Kind::Bank && pair.one.u[1] == 0;
+        let is_slow = step.kind == Kind::Bank && pair.one.u[1] == 0;
         is_loud |= pair.call(t, what, &step) == 0 && is_slow;
     }
     t.channel_hops += 2 * (n * (pair.banks() + pair.gates())) as u64;
@@ -261,7 +293,7 @@ pub fn any_histories(t: &mut Tally, i: usize, rng: &mut Rng) {
 /// Two channels, one length of 375 and a further list that has no call too many: floors differ until its last bank update, and
 /// rises until its 1,499th gate update, when the windows are summed afresh.
 pub fn no_call_too_many(t: &mut Tally) {
-    let step = |kind, db: f64, power: f32| Step { kind, db: vec![db; 2], power: vec![power; 2], hold: None, carries: false, marks: 2, role: TECHNICIAN };
+    let step = |kind, db: f64, power: f32| Step { kind, db: vec![db; 2], power: vec![power; 2], hold: None, holds: vec![], carries: false, marks: 2, role: TECHNICIAN };
     let mut one = Set::new(2, [0, 0, ABSENT], &[375]);
     let mut other = one.clone();
     let what = format_args!("history, no call too many");

@@ -24,6 +24,7 @@ mod numbers;
 mod pairs;
 mod plain_antennas;
 mod plain_log;
+mod receive;
 mod registers;
 mod roles;
 mod rules;
@@ -44,13 +45,14 @@ use tally::Tally;
 const SIZES: [usize; 13] = [1, 2, 3, 4, 5, 6, 31, 32, 33, 64, 65, 511, 512];
 
 /// Job i: the making of banks and gates, the ladder, the hop logs, two antennas, the roles, the dispatcher and the registers, two histories, two
-/// lists of which one is louder, the worst floor of late over some span, arbitrary stores of some size, a run of some size and plan, or the dB of a
-/// part of all powers.
+/// lists of which one is louder, the worst floor of late over some span, runs of hops of some size, arbitrary stores of some size, a long list of some
+/// size and plan, or the dB of a part of all powers.
 fn job(i: usize, seed: u64, alone: &mut Alone) -> Option<Tally> {
     let mut t = Tally::default();
     let mut rng = Rng(seed ^ (i as u64) << 32);
     let lists = history::PAIRS + louder::PAIRS;
     let spans = lists + worst::SPANS.len();
+    let received = spans + receive::SIZES.len();
     if i == 0 {
         faults::any_n(&mut t, &mut rng);
         faults::any_settings(&mut t, &mut rng);
@@ -79,13 +81,20 @@ fn job(i: usize, seed: u64, alone: &mut Alone) -> Option<Tally> {
         louder::any_pair(&mut t, i - history::PAIRS - 1, &mut rng);
     } else if i <= spans {
         worst::runs(&mut t, worst::SPANS[i - lists - 1], &mut rng);
-    } else if i <= spans + SIZES.len() {
-        let n = SIZES[i - spans - 1];
+    } else if i <= received {
+        let n = receive::SIZES[i - spans - 1];
+        receive::lists(&mut t, n, &mut rng);
+        receive::garbled_hops(&mut t, n, &mut rng);
+        if n < 40 {
+            receive::refusals(&mut t, n, &mut rng);
+        }
+    } else if i <= received + SIZES.len() {
+        let n = SIZES[i - received - 1];
         (0..6000 / (n + 10)).for_each(|_| faults::any_sound_store(&mut t, n, &mut rng));
         (0..6000 / (n + 10)).for_each(|_| pairs::any_pairs(&mut t, n, &mut rng));
         (0..6000 / (n + 10)).for_each(|_| explain::any_sides(&mut t, n, &mut rng));
     } else {
-        let run = i - spans - SIZES.len() - 1;
+        let run = i - received - SIZES.len() - 1;
         let Some(&n) = SIZES.get(run / PLANS.len()) else {
             let part = run - PLANS.len() * SIZES.len();
             decibels::spread(&mut t, (part < decibels::PARTS).then_some(part)?, seed);

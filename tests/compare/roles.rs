@@ -13,7 +13,7 @@ use std::collections::BTreeSet;
 const ROLES: [u16; 5] = [0, 1, 2, 3, 65535];
 
 /// The table of rights, as the papers have it: each call's name, the least role that has the right, and all that it answers a technician.
-pub const CALLS: [(&str, u16, &[u16], fn(Parts) -> u16); 34] = [
+pub const CALLS: [(&str, u16, &[u16], fn(Parts) -> u16); 35] = [
     ("channel_floor_db", KEEPER, &[0, 2, 7, 9], |p| lib::channel_floor_db(p.u, p.f, p.k, &mut p.values[0])),
     ("effective_floor_db", KEEPER, &[0, 2, 7, 9], |p| lib::effective_floor_db(p.u, p.f, p.k, &mut p.values[0])),
     ("rise_floor_db", KEEPER, &[0, 2, 7, 9], |p| lib::rise_floor_db(p.u, p.f, p.k, &mut p.values[0])),
@@ -43,6 +43,9 @@ pub const CALLS: [(&str, u16, &[u16], fn(Parts) -> u16); 34] = [
         linear_rows::gate_update((p.u, p.f), (p.gate, p.gate_f), p.power, (p.rise, p.drop))
     }),
     ("gate_hold", TECHNICIAN, &[0, 2, 5, 8, 9], |p| lib::gate_hold((p.u, p.f), (p.gate, p.gate_f), (p.rise, p.drop))),
+    ("receive", TECHNICIAN, &[0, 2, 5, 6, 8, 9], |p| {
+        lib::receive((p.u, p.f), (p.gate, p.gate_f), (p.holds, p.db, p.power), (p.rise, p.drop))
+    }),
     ("map_new", TECHNICIAN, &[0, 2, 9], |p| map_rows::new((p.gate, p.gate_f), p.map)),
     ("gate_update_map", TECHNICIAN, &[0, 2, 5, 8, 9], |p| {
         map_rows::update((p.u, p.f), (p.gate, p.gate_f), p.map, (p.db, p.power), (p.rise, p.drop))
@@ -66,8 +69,9 @@ pub fn least(name: &str) -> Option<u16> {
 /// All that some call is lent.
 #[derive(Clone)]
 struct Set {
-    /// a bank, a gate, a hop with its marks, and what makes them
+    /// a bank, a gate, a hop with its marks, and what makes them; and which hops of a run are held: that hop
     l: Lent,
+    holds: Vec<u8>,
     worst: Vec<u16>,
     worst_f: Vec<f64>,
     span: usize,
@@ -97,6 +101,7 @@ pub struct Parts<'a> {
     db: &'a [f64],
     power: &'a [f32],
     hold: bool,
+    holds: &'a [u8],
     k: usize,
     n: usize,
     gate: &'a mut [u16],
@@ -148,6 +153,7 @@ impl Set {
         let group = |_| bits.chunks(8).map(|byte| byte.iter().rev().fold(0, |b, &bit| 2 * b + bit as u8));
         Set {
             l,
+            holds: vec![0],
             worst: vec![n as u16, 3, 2, 2],
             worst_f: (0..3 * n).map(|_| -100.0 * rng.unit()).collect(),
             span: 3,
@@ -177,6 +183,7 @@ impl Set {
             db: &l.db[..l.db_len],
             power: &l.power[..l.power_len],
             hold: l.hold == Some(true),
+            holds: &self.holds,
             k: l.k,
             n: l.n,
             gate: &mut l.gate[..l.gate_len],
@@ -211,7 +218,7 @@ impl Set {
         let l = &self.l;
         let words = [&l.u, &l.gate, &l.lengths, &self.worst].into_iter().flatten().map(|&x| x as u64);
         let floats = [&l.f, &l.gate_f, &l.db, &self.worst_f].into_iter().flatten().chain(&self.values).map(|x| x.to_bits());
-        let bytes = [&l.rise, &l.drop, &self.map, &self.first, &self.second, &self.log].into_iter().flatten().map(|&x| x as u64);
+        let bytes = [&l.rise, &l.drop, &self.holds, &self.map, &self.first, &self.second, &self.log].into_iter().flatten().map(|&x| x as u64);
         let powers = l.power.iter().map(|x| x.to_bits()).chain(self.hops.1.iter().chain(&self.hop.1).copied()).map(|x| x as u64);
         let patterns = self.hops.0.iter().chain(&self.hop.0).copied();
         let origins = self.origins.iter().flat_map(|&(origin, db)| [origin as u64, db.to_bits()]);
@@ -225,8 +232,10 @@ fn shorten<T>(slice: &mut Vec<T>) {
 }
 
 /// What else may be wrong, or otherwise, behind the faults of bank, gate, hop and settings.
-const MORE: [(&str, fn(&mut Set)); 28] = [
-    ("a hop that holds the reference", |s| s.l.hold = Some(true)),
+const MORE: [(&str, fn(&mut Set)); 30] = [
+    ("a hop that holds the reference", |s| (s.l.hold, s.holds) = (Some(true), vec![1])),
+    ("a run of a hop too many", |s| s.holds.push(0)),
+    ("a run of no hop", |s| s.holds.clear()),
     ("worst floor's u16 store one short", |s| shorten(&mut s.worst)),
     ("worst floor's W 0", |s| s.worst[1..].fill(0)),
     ("worst floor's f64 store one long", |s| s.worst_f.push(0.0)),

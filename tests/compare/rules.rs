@@ -149,6 +149,15 @@ pub const GATE_HOLD: [Rule; 2] = [
     rule("drop length", 5, |c| c.drop.len() != c.gate[0] as usize),
 ];
 
+/// Of a run of one hop.
+pub const RECEIVE: [Rule; 5] = [
+    rule("dB length", 5, |c| c.db.len() != c.gate[0] as usize),
+    rule("power length", 5, |c| c.power.len() != c.gate[0] as usize),
+    rule("rise length", 5, |c| c.rise.len() != c.gate[0] as usize),
+    rule("drop length", 5, |c| c.drop.len() != c.gate[0] as usize),
+    rule("garbled", 6, |c| c.u[1] == 0 && garbled(c.db)),
+];
+
 pub const GATE_READ: [Rule; 1] = [rule("channel", 7, |c| c.k >= c.gate[0] as usize)];
 
 /// How often each rule of "Sound" was broken with no other, the bank's first.

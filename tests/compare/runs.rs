@@ -38,7 +38,7 @@ pub const LENGTHS: [&[u16]; 6] = [
 ];
 
 /// Levels at which noise and tones give all kinds of marks.
-const LEVELS: [[i32; 3]; 4] = [[48, 16, 65535], [40, 24, 96], [8, 40, 65535], [56, 8, 72]];
+pub const LEVELS: [[i32; 3]; 4] = [[48, 16, 65535], [40, 24, 96], [8, 40, 65535], [56, 8, 72]];
 
 /// The library's stores and marks, and floor.rs's bank and gate beside them.
 pub struct Both {

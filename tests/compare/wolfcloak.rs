@@ -64,6 +64,11 @@ extern "C" {
         role: u16, b: *const u16, bl: usize, f: *const f64, fl: usize, g: *const u16, gl: usize, h: *mut f64, hl: usize,
         rise: *mut u8, rise_len: usize, drop: *mut u8, drop_len: usize,
     ) -> u16;
+    fn wolfcloak_receive(
+        role: u16, b: *mut u16, bl: usize, f: *mut f64, fl: usize, g: *mut u16, gl: usize, h: *mut f64, hl: usize,
+        hold: *const u8, hold_len: usize, power_db: *const f64, power_db_len: usize, power: *const f32, power_len: usize,
+        rise: *mut u8, rise_len: usize, drop: *mut u8, drop_len: usize,
+    ) -> u16;
     fn wolfcloak_smoothed_db(role: u16, g: *const u16, gl: usize, h: *const f64, hl: usize, k: usize, value: *mut f64) -> u16;
     fn wolfcloak_ema_rise(
         role: u16, b: *const u16, bl: usize, f: *const f64, fl: usize, g: *const u16, gl: usize, h: *const f64, hl: usize,
@@ -171,6 +176,20 @@ pub fn gate_hold(bank: (&[u16], &[f64]), gate: (&[u16], &mut [f64]), marks: (&mu
         wolfcloak_gate_hold(
             role(), bank.0.as_ptr(), bank.0.len(), bank.1.as_ptr(), bank.1.len(),
             gate.0.as_ptr(), gate.0.len(), gate.1.as_mut_ptr(), gate.1.len(),
+            marks.0.as_mut_ptr(), marks.0.len(), marks.1.as_mut_ptr(), marks.1.len(),
+        )
+    }
+}
+
+/// A run: `hops` is the hold bytes, and dB and power hop after hop, as the marks are.
+pub fn receive(
+    bank: (&mut [u16], &mut [f64]), gate: (&mut [u16], &mut [f64]), hops: (&[u8], &[f64], &[f32]), marks: (&mut [u8], &mut [u8]),
+) -> u16 {
+    unsafe {
+        wolfcloak_receive(
+            role(), bank.0.as_mut_ptr(), bank.0.len(), bank.1.as_mut_ptr(), bank.1.len(),
+            gate.0.as_mut_ptr(), gate.0.len(), gate.1.as_mut_ptr(), gate.1.len(),
+            hops.0.as_ptr(), hops.0.len(), hops.1.as_ptr(), hops.1.len(), hops.2.as_ptr(), hops.2.len(),
             marks.0.as_mut_ptr(), marks.0.len(), marks.1.as_mut_ptr(), marks.1.len(),
         )
     }

@@ -394,6 +394,125 @@ static void linear_hops(void)
     expect("a power too few", wolfcloak_bank_update_linear(me, linear, TWO, linear_f, 10, loud, 1, false), WOLFCLOAK_REFUSED_HOP_SIZE);
 }
 
+/* Two sets of three channels: one is fed runs, the other the same hops by single calls. */
+enum { RUN_N = 3, RUN_HOPS = 20, RUN_ALL = RUN_HOPS * RUN_N, RUN_LEN = 3 + 1 + RUN_N * CHANNEL_LEN, RUN_F = 14, RUN_GATE_F = 27 };
+static struct set {
+    uint16_t bank[RUN_LEN], gate[WOLFCLOAK_GATE_LEN];
+    double bank_f[RUN_F], gate_f[RUN_GATE_F];
+    uint8_t rise[RUN_ALL], drop[RUN_ALL];
+} by_runs, by_calls, kept;
+static uint8_t run_hold[RUN_HOPS];
+static double run_db[RUN_ALL];
+static float run_power[RUN_ALL];
+
+/* So many hops, from hop `from` on. */
+static uint16_t receive(uint16_t role, struct set *s, size_t from, size_t hops)
+{
+    size_t at = from * RUN_N, all = hops * RUN_N;
+    return wolfcloak_receive(role, s->bank, RUN_LEN, s->bank_f, RUN_F, s->gate, 30, s->gate_f, RUN_GATE_F, run_hold + from, hops,
+                             run_db + at, all, run_power + at, all, s->rise + at, all, s->drop + at, all);
+}
+
+/* Any lengths. */
+static uint16_t receive_any(struct set *s, size_t hops, size_t db, size_t power, size_t rise, size_t drop)
+{
+    return wolfcloak_receive(me, s->bank, RUN_LEN, s->bank_f, RUN_F, s->gate, 30, s->gate_f, RUN_GATE_F, run_hold, hops,
+                             run_db, db, run_power, power, s->rise, rise, s->drop, drop);
+}
+
+static void hear_one_by_one(struct set *s, size_t hops)
+{
+    for (size_t i = 0, at = 0; i < hops; i++, at += RUN_N) {
+        bool held = run_hold[i] != 0;
+        expect("bank_update_holding_reference",
+               wolfcloak_bank_update_holding_reference(me, s->bank, RUN_LEN, s->bank_f, RUN_F, run_db + at, RUN_N, run_power + at, RUN_N, held),
+               WOLFCLOAK_OK);
+        if (held)
+            expect("gate_hold", wolfcloak_gate_hold(me, s->bank, RUN_LEN, s->bank_f, RUN_F, s->gate, 30, s->gate_f, RUN_GATE_F,
+                                                    s->rise + at, RUN_N, s->drop + at, RUN_N), WOLFCLOAK_OK);
+        else
+            expect("gate_update", wolfcloak_gate_update(me, s->bank, RUN_LEN, s->bank_f, RUN_F, s->gate, 30, s->gate_f, RUN_GATE_F,
+                                                        run_db + at, RUN_N, run_power + at, RUN_N, s->rise + at, RUN_N, s->drop + at, RUN_N),
+                   WOLFCLOAK_OK);
+    }
+}
+
+static void expect_equal(const char *what, const struct set *a, const struct set *b)
+{
+    expect(what, memcmp(a->bank, b->bank, sizeof a->bank), 0);
+    expect(what, memcmp(a->bank_f, b->bank_f, sizeof a->bank_f), 0);
+    expect(what, memcmp(a->gate, b->gate, sizeof a->gate), 0);
+    expect(what, memcmp(a->gate_f, b->gate_f, sizeof a->gate_f), 0);
+    expect(what, memcmp(a->rise, b->rise, sizeof a->rise), 0);
+    expect(what, memcmp(a->drop, b->drop, sizeof a->drop), 0);
+}
+
+/* A tone on the second channel from the seventh hop on, static now and then. Two runs leave what the single calls of their hops leave. */
+static void runs_of_hops(void)
+{
+    static const uint16_t lengths[1] = {2};
+    struct set *sets[2] = {&by_runs, &by_calls};
+    int rises = 0, drops = 0;
+
+    for (int i = 0; i < RUN_ALL; i++) {
+        int tone = i % RUN_N == 1 && i / RUN_N >= 6;
+        run_hold[i / RUN_N] = i / RUN_N % 7 == 3 ? (uint8_t)(1 + i) : 0;
+        run_db[i] = tone ? -60 : -100 - i % 5;
+        run_power[i] = tone ? 1e-6f : 1e-10f;
+    }
+    for (int i = 0; i < 2; i++) {
+        memset(sets[i]->rise, 9, RUN_ALL);
+        memset(sets[i]->drop, 9, RUN_ALL);
+        expect("bank_new", wolfcloak_bank_new(me, sets[i]->bank, RUN_LEN, sets[i]->bank_f, RUN_F, RUN_N), WOLFCLOAK_OK);
+        expect("gate_new", wolfcloak_gate_new(me, sets[i]->gate, 30, sets[i]->gate_f, RUN_GATE_F, RUN_N, 48, 16, WOLFCLOAK_NO_EARLY, lengths, 1),
+               WOLFCLOAK_OK);
+    }
+    expect("receive", receive(me, &by_runs, 0, 13), WOLFCLOAK_OK);
+    expect("a mark behind the run", by_runs.rise[13 * RUN_N], 9);
+    expect("receive", receive(me, &by_runs, 13, 7), WOLFCLOAK_OK);
+    hear_one_by_one(&by_calls, RUN_HOPS);
+    expect_equal("runs beside single calls", &by_runs, &by_calls);
+    for (int i = 0; i < RUN_ALL; i++) {
+        rises += by_runs.rise[i];
+        drops += by_runs.drop[i];
+    }
+    expect("some rise, and not everywhere", rises > 0 && rises < RUN_ALL, 1);
+    expect("some drop, and not everywhere", drops > 0 && drops < RUN_ALL, 1);
+}
+
+/* Refusals, each of which leaves the whole run undone; 5 hops have passed since the last slow one, so that of the next run hop 10 is slow. */
+static void refused_runs(void)
+{
+    kept = by_runs;
+    expect("a keeper's run", receive(WOLFCLOAK_KEEPER, &by_runs, 0, RUN_HOPS), WOLFCLOAK_REFUSED_RIGHT);
+    expect("a leader's run", receive(WOLFCLOAK_LEADER, &by_runs, 0, 0), WOLFCLOAK_REFUSED_RIGHT);
+    expect("a hold byte too many", receive_any(&by_runs, 3, 6, 6, 6, 6), WOLFCLOAK_REFUSED_HOP_SIZE);
+    expect("a dB too many", receive_any(&by_runs, 2, 7, 6, 6, 6), WOLFCLOAK_REFUSED_HOP_SIZE);
+    expect("a power too few", receive_any(&by_runs, 2, 6, 5, 6, 6), WOLFCLOAK_REFUSED_HOP_SIZE);
+    expect("a rise too few", receive_any(&by_runs, 2, 6, 6, 5, 6), WOLFCLOAK_REFUSED_HOP_SIZE);
+    expect("a drop too many", receive_any(&by_runs, 2, 6, 6, 6, 7), WOLFCLOAK_REFUSED_HOP_SIZE);
+    expect("no hops, and places for marks", receive_any(&by_runs, 0, 0, 0, 3, 3), WOLFCLOAK_REFUSED_HOP_SIZE);
+    /* three times as many is 2 where a size_t wraps; what is lent ends before, and none of it may be read */
+    expect("more hops than can be counted", receive_any(&by_runs, SIZE_MAX / 3 + 1, 2, 2, 2, 2), WOLFCLOAK_REFUSED_HOP_SIZE);
+    run_db[10 * RUN_N + 2] = NAN;
+    run_hold[10] = 0;
+    expect("a garbled hop", receive(me, &by_runs, 0, RUN_HOPS), WOLFCLOAK_REFUSED_GARBLED);
+    run_hold[10] = 1;
+    expect("a garbled hop that is held", receive(me, &by_runs, 0, 11), WOLFCLOAK_REFUSED_GARBLED);
+    by_runs.gate[0] = 2;
+    expect("a gate that is none, and a garbled hop", receive(me, &by_runs, 0, 11), WOLFCLOAK_REFUSED_STORE_SIZE);
+    by_runs.gate[0] = RUN_N;
+    expect_equal("after refusals", &by_runs, &kept);
+    expect("a run of no hops", receive(me, &by_runs, 0, 0), WOLFCLOAK_OK);
+    expect_equal("after a run of no hops", &by_runs, &kept);
+    by_runs.bank[1] = 15;
+    expect("a run of no hops, and a bank that is none", receive(me, &by_runs, 0, 0), WOLFCLOAK_REFUSED_UNSOUND);
+    by_runs.bank[1] = kept.bank[1];
+    expect("the hops before the garbled one", receive(me, &by_runs, 0, 10), WOLFCLOAK_OK);
+    hear_one_by_one(&by_calls, 10);
+    expect_equal("the hops before the garbled one", &by_runs, &by_calls);
+}
+
 /* A leader remakes a gate that has heard a tone: it is as if it had been made with the new levels. The checks in their order before. */
 static void remade(void)
 {
@@ -456,6 +575,8 @@ int main(void)
     ticks();
     registers();
     remade();
+    runs_of_hops();
+    refused_runs();
     roles();
     puts(wrong ? "tests/link: failed" : "tests/link: ok");
     return wrong != 0;

@@ -1,23 +1,23 @@
 -- Laws on counting failures and on the recount of a channel. Assumes nothing.
 use mathlib.Core.Path.{_≡_, refl, sym, ap, ap₂, _∙_}
-use mathlib.Core.Bool.{Bool, true, false, cond, not, _&&_}
+use mathlib.Core.Bool.{Bool, true, false, cond, not, _&&_, _||_}
 use mathlib.Core.List.{List}
 use Prim.Native.Nat.{ℕ, zero, suc, _+_, _<_, _≤_}
 use native.Mathlib.Nat.{add-zero, zero-add}
 use native.Mathlib.Omega.{arith}
 use native.Mathlib.Numerals.{add-one}
 use lib.Dec.{eqb, ltb, leb}
-use lib.ListN.{length, getD, take, set, replicate, length-replicate, getD-replicate}
-use lib.Seq.{take-take, getD-set-same, getD-set-other}
+use lib.ListN.{length, getD, take}
+use lib.Seq.{take-take}
 use borrow.Author.Tests.{eqb-true, eqb-false, eq-eqb, ne-eqb, ltb-true, leb-true}
 use Rattle.laws.specs.Lists.{one, occ, part}
-use Rattle.laws.proofs.Counting.{one-le, occ-step, occ-all, occ-none}
+use Rattle.laws.proofs.Counting.{one-le, occ-all, occ-none}
 use Rattle.laws.specs.Tests.{allBelow}
 use Rattle.laws.proofs.Lists.{getD-part}
 use Rattle.laws.proofs.Tests.{by-test, all-at, and-l, and-r, and-true, and-false-l, and-false-r}
 use Rattle.model.specs.Layout.{bins, ringLen, atCounts, atNext, atFilled, atLead}
 use Rattle.model.specs.Stores.{chanOf, soundFields, soundRing, soundCounts, soundChannel}
-use Rattle.bank_sound.specs.Fails.{fails, isBin, strayEntries, isFirst, otherEntries, ofOneBin, isTallied, wrongCounts}
+use Rattle.bank_sound.specs.Fails.{fails, isBin, strayEntries, isFirst, otherEntries, ofOneBin, isUnused, usedBins, isTallied}
 
 -- ---- failures counted
 
@@ -52,6 +52,51 @@ unfolding allBelow
 all-same zero p q h = refl
 all-same (suc n) p q h = ap₂ _&&_ (all-same n p q (λ i l. h i (omega arith))) (h n (omega arith))
 
+or-true : (b : Bool) → (b || true) ≡ true
+or-true true = refl
+or-true false = refl
+
+or-false : (b : Bool) → (b || false) ≡ b
+or-false true = refl
+or-false false = refl
+
+-- the failures with and without that of one number
+module _ (p : ℕ → Bool) (x : ℕ) where
+  before-one : (n : ℕ) → n ≤ x → fails n p ≡ fails n (λ b. p b || eqb b x)
+  unfolding fails
+  before-one zero h = refl
+  before-one (suc n) h =
+      ap₂ _+_ (before-one n (omega arith)) (ap (λ (v : Bool). one (not v)) (sym (ap (λ (v : Bool). p n || v) (ne-eqb n x (λ e. omega arith)) ∙ or-false (p n))))
+
+  but-one : (n : ℕ) → x < n → fails n p ≡ fails n (λ b. p b || eqb b x) + one (not (p x))
+  unfolding fails
+  but-one zero h = absurd (omega arith)
+  but-one (suc n) h =
+      by-test (eqb n x)
+      (λ e.
+      omega (
+        arith,
+        before-one n (omega (arith, eqb-true n x e)),
+        ap (λ (v : Bool). one (not (p n || v))) e,
+        ap (λ (v : Bool). one (not v)) (or-true (p n)),
+        ap (λ (m : ℕ). one (not (p m))) (eqb-true n x e),
+      ))
+      (λ e.
+      omega (
+        arith,
+        but-one n (omega (arith, eqb-false n x e)),
+        ap (λ (v : Bool). one (not (p n || v))) e,
+        ap (λ (v : Bool). one (not v)) (or-false (p n)),
+      ))
+
+eqb-over : (a k : ℕ) → eqb (a + k) k ≡ eqb a 0
+eqb-over a k = by-test (eqb a 0) (λ e. eq-eqb (a + k) k (omega (arith, eqb-true a 0 e)) ∙ sym e) (λ e. ne-eqb (a + k) k (λ d. eqb-false a 0 e (omega arith)) ∙ sym e)
+
+-- one number more
+pub all-step : (n : ℕ) (p : ℕ → Bool) → allBelow (n + 1) p ≡ (allBelow n p && p n)
+unfolding allBelow
+all-step n p = rw (add-one n)
+
 -- ---- the ring
 
 pub entry-below : (l : List ℕ) (i : ℕ) → strayEntries l ≡ 0 → i < ringLen → getD l i 0 < bins
@@ -67,44 +112,51 @@ ring-sound l =
 
 -- ---- the recount
 
--- one more entry counted: what a turn of the recount does
-pub tally-more : (n : ℕ) (l t : List ℕ) (i : ℕ) → length t ≡ n → i < length l → getD l i 0 < n
-    → ((b : ℕ) → b < n → getD t b 0 ≡ occ b (take i l))
-    → (b : ℕ) → b < n → getD (set t (getD l i 0) (getD t (getD l i 0) 0 + 1)) b 0 ≡ occ b (take (i + 1) l)
-tally-more n l t i lt h g all b k =
-    let x = getD l i 0 in
-    by-test (eqb b x)
-    (λ e.
-    let q : x ≡ b = sym (eqb-true b x e) in
-    rw (← q) (getD-set-same t x (getD t x 0 + 1) 0 (omega arith) ∙ ap (λ (m : ℕ). m + 1) (all x g) ∙ sym (occ-step x l i h ∙ ap (λ (v : Bool). occ x (take i l) + one v) (eq-eqb x x refl))))
-    (λ e.
-    getD-set-other t x b (getD t x 0 + 1) 0 (eqb-false b x e) ∙ all b k ∙ sym (occ-step b l i h ∙ ap (λ (v : Bool). occ b (take i l) + one v) e ∙ add-zero (occ b (take i l))))
+-- what a ring of one bin holds
+own-count : (n : ℕ) (l : List ℕ) → ofOneBin n l ≡ true → getD l (atCounts + getD l 0 0) 0 ≡ n
+unfolding ofOneBin
+own-count n l h = eqb-true (getD l (atCounts + getD l 0 0) 0) n (and-l (eqb (getD l (atCounts + getD l 0 0) 0) n) (eqb (otherEntries n l) 0) h)
 
--- a ring of one bin needs no count
 same-entry : (n : ℕ) (l : List ℕ) (i : ℕ) → ofOneBin n l ≡ true → i < n → getD l i 0 ≡ getD l 0 0
 unfolding ofOneBin otherEntries
 same-entry n l i h k =
     eqb-true (getD l i 0) (getD l 0 0) (all-at (isFirst l) n i (sym (none-fails n (isFirst l)) ∙ and-r (eqb (getD l (atCounts + getD l 0 0) 0) n) (eqb (fails n (isFirst l)) 0) h) k)
 
-pub tally-one : (m n : ℕ) (l : List ℕ) → getD l 0 0 < m → n ≤ length l → ofOneBin n l ≡ true
-    → (b : ℕ) → b < m → getD (set (replicate {A = ℕ} m 0) (getD l 0 0) n) b 0 ≡ occ b (take n l)
-tally-one m n l g h o b k =
+-- a test of every bin that says of each whether its count is how often it occurs
+pub sound-by : (l : List ℕ) (p : ℕ → Bool) → getD l atFilled 0 ≤ ringLen
+    → ((b : ℕ) → b < bins → p b ≡ eqb (getD l (atCounts + b) 0) (occ b (take (getD l atFilled 0) l)))
+    → allBelow bins p ≡ soundCounts (chanOf l)
+unfolding soundCounts
+sound-by l p h says =
+    all-same bins p (λ b. eqb (getD (part atCounts bins l) b 0) (occ b (take (getD l atFilled 0) (part 0 ringLen l))))
+    (λ b k. says b k ∙ ap₂ eqb (sym (getD-part atCounts bins l b 0 k)) (ap (occ b) (sym (take-take (getD l atFilled 0) ringLen l h))))
+
+pub counts-sound : (l t : List ℕ) → getD l atFilled 0 ≤ ringLen → ((b : ℕ) → b < bins → getD t b 0 ≡ occ b (take (getD l atFilled 0) l))
+    → allBelow bins (isTallied l t) ≡ soundCounts (chanOf l)
+counts-sound l t h tallied = sound-by l (isTallied l t) h (λ b k. ap (eqb (getD l (atCounts + b) 0)) (tallied b k))
+
+-- the counts of a ring of one bin are sound if no other bin has a count
+pub counts-of-one : (l : List ℕ) → getD l 0 0 < bins → getD l atFilled 0 ≤ ringLen → getD l atFilled 0 ≤ length l → ofOneBin (getD l atFilled 0) l ≡ true
+    → eqb (usedBins l) (one (not (eqb (getD l atFilled 0) 0))) ≡ soundCounts (chanOf l)
+unfolding usedBins
+counts-of-one l g h k o =
+    let n = getD l atFilled 0 in
     let x = getD l 0 0 in
-    let t : List ℕ = replicate m 0 in
+    let own : getD l (atCounts + x) 0 ≡ n = own-count n l o in
+    let p : ℕ → Bool = λ b. isUnused l b || eqb b x in
+    ap₂ eqb (but-one (isUnused l) x bins g ∙ ap (λ (m : ℕ). fails bins p + one (not (eqb m 0))) own) refl
+    ∙ eqb-over (fails bins p) (one (not (eqb n 0)))
+    ∙ none-fails bins p
+    ∙ sound-by l p h
+    (λ b m.
     by-test (eqb b x)
     (λ e.
     let q : x ≡ b = sym (eqb-true b x e) in
-    rw (← q) (getD-set-same t x n 0 (simp length-replicate g) ∙ sym (occ-all x l n h (λ i. same-entry n l i o))))
+    ap (λ (v : Bool). isUnused l b || v) e ∙ or-true (isUnused l b)
+    ∙ sym (eq-eqb (getD l (atCounts + b) 0) (occ b (take n l)) (rw (← q) (own ∙ sym (occ-all x l n k (λ i. same-entry n l i o))))))
     (λ e.
-    getD-set-other t x b n 0 (eqb-false b x e) ∙ getD-replicate m b 0 0 k ∙ sym (occ-none b x l n (eqb-false b x e) h (λ i. same-entry n l i o)))
-
-pub counts-sound : (l t : List ℕ) → getD l atFilled 0 ≤ ringLen → ((b : ℕ) → b < bins → getD t b 0 ≡ occ b (take (getD l atFilled 0) l))
-    → eqb (wrongCounts l t) 0 ≡ soundCounts (chanOf l)
-unfolding wrongCounts soundCounts
-counts-sound l t h tallied =
-    none-fails bins (isTallied l t)
-    ∙ all-same bins (isTallied l t) (λ b. eqb (getD (part atCounts bins l) b 0) (occ b (take (getD l atFilled 0) (part 0 ringLen l))))
-    (λ b k. ap₂ eqb (sym (getD-part atCounts bins l b 0 k)) (tallied b k ∙ ap (occ b) (sym (take-take (getD l atFilled 0) ringLen l h))))
+    ap (λ (v : Bool). isUnused l b || v) e ∙ or-false (isUnused l b)
+    ∙ ap (eqb (getD l (atCounts + b) 0)) (sym (occ-none b x l n (eqb-false b x e) k (λ i. same-entry n l i o)))))
 
 -- ---- the channel, by the first test that fails
 

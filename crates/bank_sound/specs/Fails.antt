@@ -30,9 +30,13 @@ otherEntries n l = fails n (isFirst l)
 unfoldable pub ofOneBin : ℕ → List ℕ → Bool
 ofOneBin n l = eqb (getD l (atCounts + getD l 0 0) 0) n && eqb (otherEntries n l) 0
 
--- the counts of a channel that differ from a tally
+-- the bins of a channel whose count is not 0
+abbrev pub isUnused : List ℕ → ℕ → Bool
+isUnused l b = eqb (getD l (atCounts + b) 0) 0
+
+unfoldable pub usedBins : List ℕ → ℕ
+usedBins l = fails bins (isUnused l)
+
+-- a tally bears out the count of a bin
 abbrev pub isTallied : List ℕ → List ℕ → ℕ → Bool
 isTallied l t b = eqb (getD l (atCounts + b) 0) (getD t b 0)
-
-unfoldable pub wrongCounts : List ℕ → List ℕ → ℕ
-wrongCounts l t = fails bins (isTallied l t)

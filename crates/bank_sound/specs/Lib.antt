@@ -1,1 +1,3 @@
 pub mod Fails
+pub mod Tallies
+pub mod Rows

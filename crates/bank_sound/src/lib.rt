@@ -1,22 +1,31 @@
 // Whether a channel's part of the bank's store is sound. It runs over the whole store at every call, so its loops count what is wrong
 // and never leave early: such a loop is compiled to wide steps.
 ghost use mathlib.Core.Path.{_≡_};
-ghost use mathlib.Core.Bool.{not};
-ghost use Prim.Native.Nat.{ℕ, _≤_, _<_};
+ghost use mathlib.Core.Bool.{true, not};
+ghost use Prim.Native.Nat.{ℕ, _+_, _*_, _≤_, _<_};
 ghost use lib.Dec.{ltb, eqb};
-ghost use lib.ListN.{length, getD, take};
-ghost use Rattle.laws.specs.Lists.{one, occ};
+ghost use lib.ListN.{length, getD};
+ghost use Rattle.laws.specs.Lists.{one};
+ghost use Rattle.laws.specs.Tests.{allBelow};
 ghost use Rattle.model.specs.Layout.{bins, ringLen, atFilled, channelLen};
 ghost use Rattle.model.specs.Stores.{chanOf, soundFields, soundCounts, soundChannel};
-ghost use Rattle.bank_sound.specs.Fails.{strayEntries, otherEntries, ofOneBin, wrongCounts};
+ghost use Rattle.bank_sound.specs.Fails.{strayEntries, otherEntries, ofOneBin, usedBins, isTallied};
+ghost use Rattle.bank_sound.specs.Rows.{chanAt, Ready, Rows, isBorneOut};
+ghost use Rattle.bank_sound.specs.Tallies.{laneSum, Tallied};
 use model::layout::BINS;
 use model::layout::BINS_U16;
+use model::layout::CHANNEL_LEN;
 use model::layout::COUNTS;
 use model::layout::FILLED;
 use model::layout::LEAD;
 use model::layout::NEXT;
 use model::layout::RING_LEN;
 use model::layout::RING_LEN_U16;
+
+// Four tallies one after another, of which each counts every fourth entry of a ring. In a single one an entry of the same bin as the one
+// before waits until that one's count is stored: a ring of one bin but for a few took four times as long as noise. A ring has 250 entries,
+// so bytes will do.
+const TALLIES_LEN: usize = 4 * BINS;
 
 fn fields_sound(next: u16, filled: u16, lead: u16, zeros: u16) -> bool
     ensures { λ r. ⌜ r ≡ soundFields next filled lead zeros ⌝ }
@@ -52,6 +61,12 @@ fn one_if_differs(a: u16, b: u16) -> u16
         return 0;
     }
     1
+}
+
+fn same(count: u16, tallied: u8) -> bool
+    ensures { λ r. ⌜ r ≡ eqb count tallied ⌝ }
+{
+    count == tallied as u16
 }
 
 // How many entries of the ring are no bins.
@@ -96,49 +111,114 @@ fn of_one_bin(chan: &[u16], filled: usize) -> bool
     other_entries(chan, filled) == 0
 }
 
-// How often each bin stands in the filled places. A ring of one bin, as silence or a steady tone leaves it, is not counted: each step
-// would wait for what the step before has stored.
-fn tally(chan: &[u16], filled: usize) -> [u16; BINS]
-    requires { ⌜ (filled ≤ ringLen) × (length (now chan) ≡ channelLen) ⌝ }
-    requires { ⌜ strayEntries (now chan) ≡ 0 ⌝ }
-    ensures { λ r. ⌜ ((b : ℕ) → b < bins → getD r b 0 ≡ occ b (take filled (now (chan .entry)))) ⌝ }
-{
-    let mut t = [0u16; BINS];
-    if of_one_bin(chan, filled) {
-        let first = chan[0] as usize;
-        t[first] = filled as u16;
-        return t;
-    }
-    let mut i: usize = 0;
-    while i < filled {
-        let b = chan[i] as usize;
-        t[b] = t[b] + 1;
-        i += 1;
-    }
-    t
-}
-
-// How many counts of the channel the tally does not bear out.
-fn wrong_counts(chan: &[u16], t: &[u16; BINS]) -> u16
+// How many bins have a count other than 0.
+fn used_bins(chan: &[u16]) -> u16
     requires { ⌜ length (now chan) ≡ channelLen ⌝ }
-    ensures { λ r. ⌜ r ≡ wrongCounts (now (chan .entry)) (now (t .entry)) ⌝ }
+    ensures { λ r. ⌜ r ≡ usedBins (now (chan .entry)) ⌝ }
 {
-    let mut wrong: u16 = 0;
+    let mut used: u16 = 0;
     let mut b: usize = 0;
     while b < BINS {
-        wrong += one_if_differs(chan[COUNTS + b], t[b]);
+        used += one_if_differs(chan[COUNTS + b], 0);
         b += 1;
     }
-    wrong
+    used
 }
 
+// One more entry, in one of the four tallies.
+fn count_one(t: &mut [u8; TALLIES_LEN], chan: &[u16], i: usize, lane: usize)
+    requires { ⌜ (i < ringLen) × (lane < 4) × (length (now chan) ≡ channelLen) × (strayEntries (now chan) ≡ 0) ⌝ }
+    requires { ⌜ Tallied i (now chan) (now t) ⌝ }
+    ensures { λ _. ⌜ Tallied (i + 1) (now (chan .entry)) (now (t .exit)) ⌝ }
+{
+    let at = lane * BINS + chan[i] as usize;
+    t[at] = t[at] + 1;
+}
+
+// Four more entries, each in a tally of its own.
+fn count_four(t: &mut [u8; TALLIES_LEN], chan: &[u16], i: usize)
+    requires { ⌜ (i + 4 ≤ ringLen) × (length (now chan) ≡ channelLen) × (strayEntries (now chan) ≡ 0) ⌝ }
+    requires { ⌜ Tallied i (now chan) (now t) ⌝ }
+    ensures { λ _. ⌜ Tallied (i + 4) (now (chan .entry)) (now (t .exit)) ⌝ }
+{
+    count_one(t, chan, i, 0);
+    count_one(t, chan, i + 1, 1);
+    count_one(t, chan, i + 2, 2);
+    count_one(t, chan, i + 3, 3);
+}
+
+// The filled places by eights, as long as there are eight; how many it has counted. Turns of four are too many for a processor to foresee
+// the last one.
+fn count_eights(t: &mut [u8; TALLIES_LEN], chan: &[u16], filled: usize) -> usize
+    requires { ⌜ (filled ≤ ringLen) × (length (now chan) ≡ channelLen) × (strayEntries (now chan) ≡ 0) ⌝ }
+    requires { ⌜ Tallied 0 (now chan) (now t) ⌝ }
+    ensures { λ r. ⌜ (r ≤ filled) × Tallied r (now (chan .entry)) (now (t .exit)) ⌝ }
+{
+    let mut i: usize = 0;
+    while i + 8 <= filled {
+        count_four(t, chan, i);
+        count_four(t, chan, i + 4);
+        i += 8;
+    }
+    i
+}
+
+// The filled places from the i-th on, of which there are few.
+fn count_rest(t: &mut [u8; TALLIES_LEN], chan: &[u16], i: usize, filled: usize)
+    requires { ⌜ (i ≤ filled) × (filled ≤ ringLen) × (length (now chan) ≡ channelLen) × (strayEntries (now chan) ≡ 0) ⌝ }
+    requires { ⌜ Tallied i (now chan) (now t) ⌝ }
+    ensures { λ _. ⌜ Tallied filled (now (chan .entry)) (now (t .exit)) ⌝ }
+{
+    let mut k = i;
+    while k < filled {
+        count_one(t, chan, k, 0);
+        k += 1;
+    }
+}
+
+// The four tallies together. A loop over bytes alone is compiled to the widest steps, and what it yields in an array of its own stays in
+// registers until the counts are asked.
+fn joined(t: &[u8; TALLIES_LEN]) -> [u8; BINS]
+    requires { ⌜ ((b : ℕ) → b < bins → laneSum (now t) b ≤ ringLen) ⌝ }
+    ensures { λ r. ⌜ ((b : ℕ) → b < bins → getD r b 0 ≡ laneSum (now (t .entry)) b) ⌝ }
+{
+    let mut sums = [0u8; BINS];
+    let mut b: usize = 0;
+    while b < BINS {
+        sums[b] = t[b] + t[BINS + b] + t[2 * BINS + b] + t[3 * BINS + b];
+        b += 1;
+    }
+    sums
+}
+
+// Whether the sums bear out every count of the channel.
+fn as_tallied(chan: &[u16], sums: &[u8; BINS]) -> bool
+    requires { ⌜ length (now chan) ≡ channelLen ⌝ }
+    ensures { λ r. ⌜ r ≡ allBelow bins (isTallied (now (chan .entry)) (now (sums .entry))) ⌝ }
+{
+    let mut all = true;
+    let mut bin: usize = 0;
+    while bin < BINS {
+        all = all & same(chan[COUNTS + bin], sums[bin]);
+        bin += 1;
+    }
+    all
+}
+
+// A ring of one bin, as silence or a steady tone leaves it, needs no tally: its bin alone has a count.
 fn counts_sound(chan: &[u16], filled: u16) -> bool
     requires { ⌜ (length (now chan) ≡ channelLen) × (filled ≡ getD (now chan) atFilled 0) × (filled ≤ ringLen) ⌝ }
     requires { ⌜ strayEntries (now chan) ≡ 0 ⌝ }
     ensures { λ r. ⌜ r ≡ soundCounts (chanOf (now (chan .entry))) ⌝ }
 {
-    let t = tally(chan, filled as usize);
-    wrong_counts(chan, &t) == 0
+    if of_one_bin(chan, filled as usize) {
+        return used_bins(chan) == one_if_differs(filled, 0);
+    }
+    let mut t = [0u8; TALLIES_LEN];
+    let i = count_eights(&mut t, chan, filled as usize);
+    count_rest(&mut t, chan, i, filled as usize);
+    let sums = joined(&t);
+    as_tallied(chan, &sums)
 }
 
 pub fn channel_sound(chan: &[u16]) -> bool
@@ -153,4 +233,167 @@ pub fn channel_sound(chan: &[u16]) -> bool
         return false;
     }
     counts_sound(chan, filled)
+}
+
+// ---- eight channels at once
+
+// Eight tallies one after another, one for each of eight channels. A processor that counts an entry of each in turn waits for none of
+// them, however often a ring has the same bin, and there is nothing to add up.
+const ROWS_LEN: usize = 8 * BINS;
+
+// A ring of one bin, as its first entry's count has it. Nothing is concluded from it but which way is the quicker.
+fn seems_of_one_bin(chan: &[u16]) -> bool
+    requires { ⌜ length (now chan) ≡ channelLen ⌝ }
+{
+    let first = chan[0];
+    if first >= BINS_U16 {
+        return false;
+    }
+    chan[COUNTS + first as usize] == RING_LEN_U16
+}
+
+// Silence, as the first and the last of the eight have it: then each is told by the quicker test of a single channel.
+fn seems_silent(bank: &[u16], from: usize) -> bool
+    requires { ⌜ (from ≤ 300000) × (from + 8 * channelLen ≤ length (now bank)) ⌝ }
+{
+    let e = from + CHANNEL_LEN;
+    if !seems_of_one_bin(&bank[from..e]) {
+        return false;
+    }
+    let last = from + CHANNEL_LEN * 7;
+    let end = last + CHANNEL_LEN;
+    seems_of_one_bin(&bank[last..end])
+}
+
+// Whether the ring is full, and all but the counts is sound.
+fn is_ready(chan: &[u16]) -> bool
+    requires { ⌜ length (now chan) ≡ channelLen ⌝ }
+    ensures { λ r. ⌜ (r ≡ true → Ready (now (chan .entry))) ⌝ }
+{
+    let entries = chan[FILLED];
+    if entries != RING_LEN_U16 {
+        return false;
+    }
+    if !fields_sound(chan[NEXT], entries, chan[LEAD], chan[COUNTS]) {
+        return false;
+    }
+    stray_entries(chan) == 0
+}
+
+fn all_ready(bank: &[u16], from: usize) -> bool
+    requires { ⌜ (from ≤ 300000) × (from + 8 * channelLen ≤ length (now bank)) ⌝ }
+    ensures { λ r. ⌜ (r ≡ true → (k : ℕ) → k < 8 → Ready (chanAt from (now (bank .entry)) k)) ⌝ }
+{
+    let mut k: usize = 0;
+    while k < 8 {
+        let a = from + CHANNEL_LEN * k;
+        let e = a + CHANNEL_LEN;
+        if !is_ready(&bank[a..e]) {
+            return false;
+        }
+        k += 1;
+    }
+    true
+}
+
+// Entry i of the k-th channel.
+fn count_in(t: &mut [u8; ROWS_LEN], bank: &[u16], from: usize, i: usize, k: usize)
+    requires { ⌜ (from ≤ 300000) × (from + 8 * channelLen ≤ length (now bank)) × (i < ringLen) × (k < 8) ⌝ }
+    requires { ⌜ ((k : ℕ) → k < 8 → Ready (chanAt from (now bank) k)) ⌝ }
+    requires { ⌜ Rows i k from (now bank) (now t) ⌝ }
+    ensures { λ _. ⌜ Rows i (k + 1) from (now (bank .entry)) (now (t .exit)) ⌝ }
+{
+    let at = k * BINS + bank[from + CHANNEL_LEN * k + i] as usize;
+    t[at] = t[at] + 1;
+}
+
+// Entry i of each channel.
+fn count_row(t: &mut [u8; ROWS_LEN], bank: &[u16], from: usize, i: usize)
+    requires { ⌜ (from ≤ 300000) × (from + 8 * channelLen ≤ length (now bank)) × (i < ringLen) ⌝ }
+    requires { ⌜ ((k : ℕ) → k < 8 → Ready (chanAt from (now bank) k)) ⌝ }
+    requires { ⌜ Rows i 0 from (now bank) (now t) ⌝ }
+    ensures { λ _. ⌜ Rows (i + 1) 0 from (now (bank .entry)) (now (t .exit)) ⌝ }
+{
+    count_in(t, bank, from, i, 0);
+    count_in(t, bank, from, i, 1);
+    count_in(t, bank, from, i, 2);
+    count_in(t, bank, from, i, 3);
+    count_in(t, bank, from, i, 4);
+    count_in(t, bank, from, i, 5);
+    count_in(t, bank, from, i, 6);
+    count_in(t, bank, from, i, 7);
+}
+
+fn count_rows(t: &mut [u8; ROWS_LEN], bank: &[u16], from: usize)
+    requires { ⌜ (from ≤ 300000) × (from + 8 * channelLen ≤ length (now bank)) ⌝ }
+    requires { ⌜ ((k : ℕ) → k < 8 → Ready (chanAt from (now bank) k)) ⌝ }
+    requires { ⌜ Rows 0 0 from (now bank) (now t) ⌝ }
+    ensures { λ _. ⌜ Rows ringLen 0 from (now (bank .entry)) (now (t .exit)) ⌝ }
+{
+    let mut i: usize = 0;
+    while i < RING_LEN {
+        count_row(t, bank, from, i);
+        i += 1;
+    }
+}
+
+// Whether a tally bears out every count of the channel that begins at a place of the store.
+fn borne_out(bank: &[u16], at: usize, t: &[u8; ROWS_LEN], lane: usize) -> bool
+    requires { ⌜ (at ≤ 400000) × (at + channelLen ≤ length (now bank)) × (lane + bins ≤ 8 * bins) ⌝ }
+    ensures { λ r. ⌜ r ≡ allBelow bins (isBorneOut (now (bank .entry)) at (now (t .entry)) lane) ⌝ }
+{
+    let mut all = true;
+    let mut b: usize = 0;
+    while b < BINS {
+        all = all & same(bank[at + (COUNTS + b)], t[lane + b]);
+        b += 1;
+    }
+    all
+}
+
+fn all_borne_out(bank: &[u16], from: usize, t: &[u8; ROWS_LEN]) -> bool
+    requires { ⌜ (from ≤ 300000) × (from + 8 * channelLen ≤ length (now bank)) ⌝ }
+    ensures { λ r. ⌜ (r ≡ true → (k : ℕ) → k < 8 → allBelow bins (isBorneOut (now (bank .entry)) (from + channelLen * k) (now (t .entry)) (k * bins)) ≡ true) ⌝ }
+{
+    let mut k: usize = 0;
+    while k < 8 {
+        if !borne_out(bank, from + CHANNEL_LEN * k, t, k * BINS) {
+            return false;
+        }
+        k += 1;
+    }
+    true
+}
+
+fn one_by_one(bank: &[u16], from: usize) -> bool
+    requires { ⌜ (from ≤ 300000) × (from + 8 * channelLen ≤ length (now bank)) ⌝ }
+    ensures { λ r. ⌜ (r ≡ true → (k : ℕ) → k < 8 → soundChannel (chanOf (chanAt from (now (bank .entry)) k)) ≡ true) ⌝ }
+{
+    let mut k: usize = 0;
+    while k < 8 {
+        let a = from + CHANNEL_LEN * k;
+        let e = a + CHANNEL_LEN;
+        if !channel_sound(&bank[a..e]) {
+            return false;
+        }
+        k += 1;
+    }
+    true
+}
+
+// Whether the eight channels that begin at a place of the store are sound. What it says of sound ones is relied on; of others it says no more
+// than that they have to be asked one by one.
+pub fn eight_sound(bank: &[u16], from: usize) -> bool
+    requires { ⌜ (from ≤ 300000) × (from + 8 * channelLen ≤ length (now bank)) ⌝ }
+    ensures { λ r. ⌜ (r ≡ true → (k : ℕ) → k < 8 → soundChannel (chanOf (chanAt from (now (bank .entry)) k)) ≡ true) ⌝ }
+{
+    if seems_silent(bank, from) {
+        return one_by_one(bank, from);
+    }
+    if !all_ready(bank, from) {
+        return one_by_one(bank, from);
+    }
+    let mut t = [0u8; ROWS_LEN];
+    count_rows(&mut t, bank, from);
+    all_borne_out(bank, from, &t)
 }

@@ -21,18 +21,22 @@ use Rattle.gate_step.proofs.Looks.{holds-u, held-ready, held-is}
 use Rattle.gate_cursors.specs.Paired.{Paired, Marked}
 use Rattle.gate_cursors.proofs.Pairs.{paired}
 use Rattle.gate_step.specs.Steps.{Holds}
-use Rattle.gate.specs.Hops.{Takes, Taken}
+use Rattle.gate.specs.Hops.{Keeps, Takes, Taken}
 
 -- ---- what a call that is not refused has shown
 
 module _ (bu : List ℕ) (bf : List Float) (gu : List ℕ) (gf : List Float) where
-  pub hold-asked : (rise drop : ℕ) → holdRefusal bu bf gu gf rise drop ≡ 0 → Paired bu bf gu gf × (rise ≡ getD gu 0 0) × (drop ≡ getD gu 0 0)
+  pub hold-asked : (rise drop : ℕ) → holdRefusal bu bf gu gf rise drop ≡ 0 → Keeps bu bf gu gf rise drop
   unfolding holdRefusal
   hold-asked rise drop e =
       let n = getD gu 0 0 in
       let a = neither (pairRefusal bu bf gu gf) _ e in
       let t = passed (differ rise n || differ drop n) 5 0 (omega arith) (a .1) .0 in
-      (paired bu bf gu gf (a .0), same-of rise n (or-l (differ rise n) (differ drop n) t), same-of drop n (or-r (differ rise n) (differ drop n) t))
+      record {
+        paired = paired bu bf gu gf (a .0);
+        rise-long = same-of rise n (or-l (differ rise n) (differ drop n) t);
+        drop-long = same-of drop n (or-r (differ rise n) (differ drop n) t);
+      }
 
   pub update-asked : (db power rise drop : ℕ) → gateUpdateRefusal bu bf gu gf db power rise drop ≡ 0 → Takes bu bf gu gf db power rise drop
   unfolding gateUpdateRefusal
@@ -70,10 +74,10 @@ module _ (bu : List ℕ) (bf : List Float) (gu : List ℕ) (gf : List Float) whe
     unfolding gateHold
     hold-refused x e z = untouched x z ∙ ap held e
 
-    pub held-marks : (f′ : List Float) (rise′ drop′ : List ℕ) → holdRefusal bu bf gu gf (length rise) (length drop) ≡ 0 → f′ ≡ gateF kept
-        → Marked kept (bankOf bu bf) rise′ drop′ → (0, f′, rise′, drop′) ≡ gateHold bu bf gu gf rise drop
+    pub held-marks : (f′ : List Float) (rise′ drop′ : List ℕ) → holdRefusal bu bf gu gf (length rise) (length drop) ≡ 0
+        → Taken kept (bankOf bu bf) gu f′ rise′ drop′ → (0, f′, rise′, drop′) ≡ gateHold bu bf gu gf rise drop
     unfolding gateHold
-    held-marks f′ rise′ drop′ e q m = (λ i. (0, q i, m .rises i, m .drops i)) ∙ ap held (sym e)
+    held-marks f′ rise′ drop′ e t = (λ i. (0, t .holds .floats i, t .marked .rises i, t .marked .drops i)) ∙ ap held (sym e)
 
   -- ---- an update
 

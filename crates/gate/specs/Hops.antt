@@ -1,4 +1,4 @@
--- One hop of the gate that is not refused: what it asks of the lent slices, and what it leaves.
+-- One hop of the gate that is not refused, and one hold: what it asks of the lent slices, and what it leaves.
 use mathlib.Core.Path.{_≡_}
 use mathlib.Core.List.{List}
 use Prim.Native.Nat.{ℕ}
@@ -14,6 +14,12 @@ pub record Takes (bu : List ℕ) (bf : List Float) (gu : List ℕ) (gf : List Fl
   pub paired : Paired bu bf gu gf
   pub db-long : db ≡ getD gu 0 0
   pub power-long : power ≡ getD gu 0 0
+  pub rise-long : rise ≡ getD gu 0 0
+  pub drop-long : drop ≡ getD gu 0 0
+
+-- the same for a hold, which has no hop
+pub record Keeps (bu : List ℕ) (bf : List Float) (gu : List ℕ) (gf : List Float) (rise drop : ℕ) : Type 0 where
+  pub paired : Paired bu bf gu gf
   pub rise-long : rise ≡ getD gu 0 0
   pub drop-long : drop ≡ getD gu 0 0
 

@@ -3,10 +3,10 @@
 ghost use mathlib.Core.Path.{_≡_};
 ghost use lib.ListN.{length};
 ghost use Rattle.model.specs.Stores.{bankOf};
-ghost use Rattle.model.specs.Gate.{updateStep};
+ghost use Rattle.model.specs.Gate.{updateStep, holdStep};
 ghost use Rattle.model.specs.GateStores.{gateOf};
 ghost use Rattle.model.specs.GateCalls.{gateUpdate, gateHold};
-ghost use Rattle.gate.specs.Hops.{Takes, Taken};
+ghost use Rattle.gate.specs.Hops.{Keeps, Takes, Taken};
 
 // One hop that is not refused: the gate steps, its pairs are brought up to date (R-3), and it is judged.
 pub fn take_hop(
@@ -57,7 +57,23 @@ pub fn gate_update(
     0
 }
 
-// The marks again, with no hop: the floors may have moved since, so the pairs are brought up to date here too (R-3).
+// One hold that is not refused: the floors may have moved since, so the pairs are brought up to date here too (R-3).
+pub fn take_hold(
+    bank: &[u16],
+    bank_f: &[f64],
+    gate: &[u16],
+    gate_f: &mut [f64],
+    rise: &mut [u8],
+    drop: &mut [u8],
+)
+    requires { ⌜ Keeps (now bank) (now «bank_f») (now gate) (now «gate_f») (length (now rise)) (length (now drop)) ⌝ }
+    ensures { λ _. ⌜ Taken (holdStep (gateOf (now (gate .entry)) (now («gate_f» .entry))) (bankOf (now (bank .entry)) (now («bank_f» .entry)))) (bankOf (now (bank .entry)) (now («bank_f» .entry))) (now (gate .entry)) (now («gate_f» .exit)) (now (rise .exit)) (now (drop .exit)) ⌝ }
+{
+    gate_pairs::refresh_started(bank, bank_f, gate, gate_f);
+    gate_marks::judge(bank, bank_f, gate, gate_f, rise, drop);
+}
+
+// The marks again, with no hop.
 pub fn gate_hold(
     bank: &[u16],
     bank_f: &[f64],
@@ -72,7 +88,6 @@ pub fn gate_hold(
     if refusal != 0 {
         return refusal;
     }
-    gate_pairs::refresh_started(bank, bank_f, gate, gate_f);
-    gate_marks::judge(bank, bank_f, gate, gate_f, rise, drop);
+    take_hold(bank, bank_f, gate, gate_f, rise, drop);
     0
 }

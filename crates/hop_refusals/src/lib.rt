@@ -18,7 +18,7 @@ fn sharing(n: usize) -> usize
 }
 
 // A NaN in a block of two or more channels.
-fn garbled(power_db: &[f64]) -> bool
+pub fn garbled(power_db: &[f64]) -> bool
     ensures { λ r. ⌜ r ≡ garbledBy (length (now («power_db» .entry))) (now («power_db» .entry)) ⌝ }
 {
     let end = sharing(power_db.len());

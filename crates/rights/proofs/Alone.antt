@@ -3,7 +3,7 @@ use mathlib.Core.Path.{_≡_, refl, sym, ap, _∙_}
 use mathlib.Core.List.{List, [], _∷_}
 use Rattle.roles.specs.Rights.{keeper, leader, asRole}
 use Rattle.rights.specs.AllCalls
-use Rattle.rights.specs.AllCalls.{Lent, Deed, does, leaves, leavesBy, bank-new, bank-update, bank-update-holding-reference, bank-update-worst, channel-floor-db, dispatch, effective-floor-db, ema-rise, explain, floors, gate-hold, gate-hold-map, gate-new, gate-remake, gate-update, gate-update-map, log-channels, log-combine, log-read, log-write, map-new, map-read, map-wire, map-write, ring, rise-floor-db, smoothed-db, spectral-reference, worst-floor, worst-new, bank-update-linear, gate-update-linear, bank-update-linear-worst, gate-update-linear-map}
+use Rattle.rights.specs.AllCalls.{Lent, Deed, does, leaves, leavesBy, bank-new, bank-update, bank-update-holding-reference, bank-update-worst, channel-floor-db, dispatch, effective-floor-db, ema-rise, explain, floors, gate-hold, gate-hold-map, gate-new, gate-remake, gate-update, gate-update-map, log-channels, log-combine, log-read, log-write, map-new, map-read, map-wire, map-write, ring, rise-floor-db, smoothed-db, spectral-reference, worst-floor, worst-new, bank-update-linear, gate-update-linear, bank-update-linear-worst, gate-update-linear-map, receive}
 use Rattle.rights.specs.Alone.{KeepersAlone, turns, onlyTurns, SameBut, LeadersLeave, LeadersAlone}
 
 -- a keeper's call is stopped or only reads
@@ -43,6 +43,7 @@ keeper-leaves e (bank-update-linear held power) = refl
 keeper-leaves e (gate-update-linear power rise drop) = refl
 keeper-leaves e (bank-update-linear-worst held power) = refl
 keeper-leaves e (gate-update-linear-map power rise drop) = refl
+keeper-leaves e (receive r) = refl
 
 pub keepers-alone : KeepersAlone
 keepers-alone [] e = refl
@@ -85,6 +86,7 @@ leader-leaves e (bank-update-linear held power) = record { bu = refl; bf = refl;
 leader-leaves e (gate-update-linear power rise drop) = record { bu = refl; bf = refl; wu = refl; wf = refl; log = refl }
 leader-leaves e (bank-update-linear-worst held power) = record { bu = refl; bf = refl; wu = refl; wf = refl; log = refl }
 leader-leaves e (gate-update-linear-map power rise drop) = record { bu = refl; bf = refl; wu = refl; wf = refl; log = refl }
+leader-leaves e (receive r) = record { bu = refl; bf = refl; wu = refl; wf = refl; log = refl }
 
 pub leaders-leave : (ds : List Deed) (e : Lent) → SameBut (leavesBy leader e ds) e
 leaders-leave [] e = record { bu = refl; bf = refl; wu = refl; wf = refl; log = refl }
@@ -131,6 +133,7 @@ turns-only ((bank-update-linear held power) ∷ ds) e = turns-only ds e
 turns-only ((gate-update-linear power rise drop) ∷ ds) e = turns-only ds e
 turns-only ((bank-update-linear-worst held power) ∷ ds) e = turns-only ds e
 turns-only ((gate-update-linear-map power rise drop) ∷ ds) e = turns-only ds e
+turns-only ((receive r) ∷ ds) e = turns-only ds e
 
 pub leaders-alone : LeadersAlone
 leaders-alone ds e = record { others = leaders-leave ds e; by-turns = turns-only ds e }

@@ -15,6 +15,8 @@ use Rattle.model.specs.Remake.{gateRemake}
 use Rattle.roles.specs.Rights as rights
 use Rattle.roles.specs.Rights.{Exported, asRole}
 use Rattle.model.specs.Demand3.{Stores}
+use Rattle.run_model.specs.Runs.{Run}
+use Rattle.run_model.specs.Claims.{receivedOn, with-run}
 use Rattle.log_model.specs.Format.{written}
 use Rattle.combine_model.specs.Combined.{combined}
 
@@ -59,6 +61,7 @@ pub data Deed : Type 0 where
   gate-update-linear : List Float → List ℕ → List ℕ → Deed
   bank-update-linear-worst : Bool → List Float → Deed
   gate-update-linear-map : List Float → List ℕ → List ℕ → Deed
+  receive : Run → Deed
 
 abbrev pub named : Deed → Exported
 named (bank-new n) = rights.bank-new
@@ -95,6 +98,7 @@ named (bank-update-linear held power) = rights.bank-update-linear
 named (gate-update-linear power rise drop) = rights.gate-update-linear
 named (bank-update-linear-worst held power) = rights.bank-update-linear-worst
 named (gate-update-linear-map power rise drop) = rights.gate-update-linear-map
+named (receive r) = rights.receive
 
 -- ---- what a call leaves, by its definition
 
@@ -163,6 +167,7 @@ does e (bank-update-linear held power) = updated false (linearHop held power) e
 does e (gate-update-linear power rise drop) = gateUpdated false (linearGateHop power) rise drop e
 does e (bank-update-linear-worst held power) = updated true (linearHop held power) e
 does e (gate-update-linear-map power rise drop) = gateUpdated true (linearGateHop power) rise drop e
+does e (receive r) = let a = receivedOn (e .set) r in record { set = with-run (e .set) (a .1) (a .2) (a .3) (a .4); log = e .log }
 
 -- ---- lists of calls, each lent what the call before left
 

@@ -4,7 +4,7 @@ use mathlib.Core.Bool.{Bool, true, false, cond}
 use mathlib.Core.List.{List, [], _∷_}
 use Prim.Native.Nat.{ℕ}
 use Rattle.roles.specs.Rights.{keeper, leader}
-use Rattle.rights.specs.AllCalls.{Lent, Deed, leavesBy, bank-new, bank-update, bank-update-holding-reference, channel-floor-db, effective-floor-db, rise-floor-db, spectral-reference, floors, ring, explain, gate-new, gate-update, gate-hold, gate-remake, smoothed-db, ema-rise, log-write, log-channels, log-read, log-combine, worst-new, bank-update-worst, worst-floor, dispatch, map-new, gate-update-map, gate-hold-map, map-read, map-write, map-wire, bank-update-linear, gate-update-linear, bank-update-linear-worst, gate-update-linear-map}
+use Rattle.rights.specs.AllCalls.{Lent, Deed, leavesBy, bank-new, bank-update, bank-update-holding-reference, channel-floor-db, effective-floor-db, rise-floor-db, spectral-reference, floors, ring, explain, gate-new, gate-update, gate-hold, gate-remake, smoothed-db, ema-rise, log-write, log-channels, log-read, log-combine, worst-new, bank-update-worst, worst-floor, dispatch, map-new, gate-update-map, gate-hold-map, map-read, map-write, map-wire, bank-update-linear, gate-update-linear, bank-update-linear-worst, gate-update-linear-map, receive}
 
 -- "Calls made by keepers alone leave every store equal to what it was"
 abbrev pub KeepersAlone : Type 0
@@ -46,6 +46,7 @@ turns (bank-update-linear held power) = false
 turns (gate-update-linear power rise drop) = false
 turns (bank-update-linear-worst held power) = false
 turns (gate-update-linear-map power rise drop) = false
+turns (receive r) = false
 
 abbrev pub onlyTurns : List Deed → List Deed
 onlyTurns [] = []

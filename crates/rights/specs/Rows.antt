@@ -19,10 +19,12 @@ use Rattle.model.specs.Remake.{gateRemake}
 use Rattle.roles.specs.Rights as rights
 use Rattle.roles.specs.Rights.{Exported, asRole}
 use Rattle.roles.proofs.Roles.{through}
+use Rattle.run_model.specs.Runs.{Run, Received}
+use Rattle.run_model.specs.Claims.{receivedOn, with-run}
 use Rattle.log_model.specs.Format.{written}
 use Rattle.log_answers.specs.LogAnswers.{writeAnswered}
 use Rattle.combine_model.specs.Combined.{combined}
-use Rattle.rights.specs.AllCalls.{Lent, does, leaves, gated, bank-new, bank-update, bank-update-holding-reference, gate-new, gate-update, gate-hold, gate-remake, log-write, log-combine, worst-new, bank-update-worst, map-new, gate-update-map, gate-hold-map, map-write, bank-update-linear, gate-update-linear, bank-update-linear-worst, gate-update-linear-map}
+use Rattle.rights.specs.AllCalls.{Lent, does, leaves, gated, bank-new, bank-update, bank-update-holding-reference, gate-new, gate-update, gate-hold, gate-remake, log-write, log-combine, worst-new, bank-update-worst, map-new, gate-update-map, gate-hold-map, map-write, bank-update-linear, gate-update-linear, bank-update-linear-worst, gate-update-linear-map, receive}
 
 -- all that is lent, with these for the bank's stores, for those of R-6 beside it, for the log's output; `gated` is that for a gate and its map
 abbrev pub withBank : Lent → List ℕ → List Float → Lent
@@ -210,3 +212,13 @@ module _ (e : Lent) (role : ℕ) where
       → withLog e log ≡ leaves role e (log-combine first second)
   unfolding leaves does
   log-combine-leaves first second len r len′ log q = made-of (λ (a : ℕ × ℕ × List ℕ). withLog e (a .2)) rights.log-combine role _ _ q
+
+  -- ---- a run of hops
+
+  -- wolfcloak_receive
+  pub receive-leaves : (run : Run) (r : ℕ) (u : List ℕ) (f : List Float) (g : List ℕ) (k : List Float) (rise′ drop′ : List ℕ)
+      → (r, u, f, g, k, rise′, drop′) ≡ asRole rights.receive role (λ r. (r, s .bu, s .bf, s .gu, s .gf, run .rise, run .drop)) (receivedOn s run)
+      → record { set = with-run s u f g k; log = e .log } ≡ leaves role e (receive run)
+  unfolding leaves does
+  receive-leaves run r u f g k rise′ drop′ q =
+      made-of (λ (a : Received). record { set = with-run s (a .1) (a .2) (a .3) (a .4); log = e .log }) rights.receive role _ _ q

@@ -49,6 +49,7 @@ pub data Exported : Type 0 where
   gate-update-linear : Exported
   bank-update-linear-worst : Exported
   gate-update-linear-map : Exported
+  receive : Exported
 
 -- the table of rights: for each call the least role that has the right
 abbrev pub least : Exported → ℕ
@@ -89,6 +90,7 @@ least bank-update-linear = technician
 least gate-update-linear = technician
 least bank-update-linear-worst = technician
 least gate-update-linear-map = technician
+least receive = technician
 
 -- a role has the right to a call: not one above 2
 abbrev pub may : Exported → ℕ → Bool

@@ -16,8 +16,12 @@ soundHead phase started = ltb phase decimationHops && leb started 1
 unfoldable pub soundSeeds : List ℕ → ℕ → Bool
 soundSeeds u n = allBelow (blocks n) (λ i. leb (getD u (3 + i) 0) 25)
 
+-- channel k of a bank of n is sound
+abbrev pub isSound : List ℕ → ℕ → ℕ → Bool
+isSound u n k = soundChannel (chanOf (chanPart n u k))
+
 unfoldable pub soundChannels : List ℕ → ℕ → Bool
-soundChannels u n = allBelow n (λ k. soundChannel (chanOf (chanPart n u k)))
+soundChannels u n = allBelow n (isSound u n)
 
 -- the u16 store of a bank of n channels is sound
 unfoldable pub soundStore : List ℕ → ℕ → Bool

@@ -1,11 +1,13 @@
 // Document 01, "Stores": the soundness test of a lent bank, and the refusals in their order.
 
 ghost use mathlib.Core.Path.{_≡_};
+ghost use mathlib.Core.Bool.{true};
 ghost use Prim.Native.Nat.{_≤_};
 ghost use lib.ListN.{length};
+ghost use Rattle.laws.specs.Tests.{allBelow};
 ghost use Rattle.model.specs.Stores.{bankLen};
 ghost use Rattle.model.specs.Refusals.{bankRefusal, updateRefusal, readRefusal};
-ghost use Rattle.stores.specs.Checks.{soundHead, soundSeeds, soundChannels, soundStore};
+ghost use Rattle.stores.specs.Checks.{soundHead, soundSeeds, isSound, soundChannels, soundStore};
 use model::layout::CHANNEL_LEN;
 use model::layout::DECIMATION_HOPS;
 
@@ -33,12 +35,28 @@ fn seeds_sound(bank: &[u16], n: usize) -> bool
     true
 }
 
+// As many channels from the first on as are found sound by eights, which takes less time than one by one.
+fn sound_eights(bank: &[u16], n: usize) -> usize
+    requires { ⌜ (n ≤ 512) × (length (now bank) ≡ bankLen n) ⌝ }
+    ensures { λ r. ⌜ (r ≤ n) × (allBelow r (isSound (now (bank .entry)) n) ≡ true) ⌝ }
+{
+    let start = store_sizes::base(n);
+    let mut k: usize = 0;
+    while k + 8 <= n {
+        if !bank_sound::eight_sound(bank, start + CHANNEL_LEN * k) {
+            return k;
+        }
+        k += 8;
+    }
+    k
+}
+
 fn channels_sound(bank: &[u16], n: usize) -> bool
     requires { ⌜ (n ≤ 512) × (length (now bank) ≡ bankLen n) ⌝ }
     ensures { λ r. ⌜ r ≡ soundChannels (now (bank .entry)) n ⌝ }
 {
     let start = store_sizes::base(n);
-    let mut k: usize = 0;
+    let mut k = sound_eights(bank, n);
     while k < n {
         let a = start + CHANNEL_LEN * k;
         let e = a + CHANNEL_LEN;

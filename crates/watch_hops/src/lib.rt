@@ -1,22 +1,52 @@
-// The hops one after another: read, heard, told and counted.
+// The hops of a recording or a log: batch by batch, or one after another, each read, heard, told and counted.
 ghost use mathlib.Core.Path.{_≡_};
-ghost use Rattle.watch_hops.specs.Followed.{isTaken, takenBytes, stopped, afterHop, followed};
+ghost use mathlib.Core.Bool.{not, _&&_};
+ghost use lib.Dec.{eqb};
 use laws::least;
 use laws::wide;
-use origins::Explanation;
-use watch_hear::Heard;
+use watch_follow::follow;
 use watch_hear::hear;
-use watch_notices::faults;
 use watch_recording::MOST;
-use watch_recording::Place;
 use watch_recording::Step;
 use watch_report::explanations::explanation_before;
-use watch_report::lines;
 use watch_report::tail;
 use watch_words::Settings;
 
-// Lends each list at the size of what is watched. Before the first hop of a log all bit patterns are zero.
+// A run doesn't carry the store of the worst floor of late, nor show the spectral reference after each of its hops; and the hops of a log are
+// of differing size.
+fn is_by_runs(s: Settings) -> bool
+    ensures { λ r. ⌜ r ≡ (not (s .«is_log») && (eqb (s .worst) 0 && not (s .«has_reference»))) ⌝ }
+{
+    if s.is_log {
+        return false;
+    }
+    if s.worst != 0 {
+        return false;
+    }
+    !s.has_reference
+}
+
 pub fn watch_hops(
+    fd: i32,
+    name: &[u8],
+    s: Settings,
+    n: u16,
+    bank: &mut [u16],
+    bank_f: &mut [f64],
+    worst: &mut [u16],
+    worst_f: &mut [f64],
+    gate: &mut [u16],
+    gate_f: &mut [f64],
+) {
+    if is_by_runs(s) {
+        watch_runs::watch_runs(fd, name, s, n, bank, bank_f, worst, worst_f, gate, gate_f);
+        return;
+    }
+    watch_each(fd, name, s, n, bank, bank_f, worst, worst_f, gate, gate_f);
+}
+
+// Lends each list at the size of what is watched. Before the first hop of a log all bit patterns are zero.
+fn watch_each(
     fd: i32,
     name: &[u8],
     s: Settings,
@@ -172,140 +202,4 @@ fn watch_all(
         alive_hops,
         rises,
     );
-}
-
-// What became of a hop: told, and if it was taken counted.
-fn follow(
-    fd: i32,
-    name: &[u8],
-    s: Settings,
-    place: Place,
-    heard: Heard,
-    before: Explanation,
-    bank: &[u16],
-    bank_f: &[f64],
-    worst: &[u16],
-    worst_f: &[f64],
-    gate: &[u16],
-    gate_f: &[f64],
-    db: &[f64],
-    rise: &[u8],
-    drop: &[u8],
-    alive: &mut [u8],
-    alive_hops: &mut [u64],
-    events: &mut [u8],
-    rises: &mut [u64],
-) -> Place
-    ensures { λ r. ⌜ (r, now (alive .exit), now («alive_hops» .exit), now (events .exit), now (rises .exit)) ≡ followed heard place (now (alive .entry)) (now («alive_hops» .entry)) (now (events .entry)) (now (rises .entry)) (now (rise .entry)) (now (drop .entry)) ⌝ }
-{
-    if !is_taken(heard) {
-        return print_stop(fd, name, place, heard);
-    }
-    take_hop(
-        s,
-        taken_bytes(heard),
-        place,
-        before,
-        bank,
-        bank_f,
-        worst,
-        worst_f,
-        gate,
-        gate_f,
-        db,
-        rise,
-        drop,
-        alive,
-        alive_hops,
-        events,
-        rises,
-    )
-}
-
-fn is_taken(heard: Heard) -> bool
-    ensures { λ r. ⌜ r ≡ isTaken heard ⌝ }
-{
-    match heard {
-        Heard::End => false,
-        Heard::Cut(_) => false,
-        Heard::BadFlag(_) => false,
-        Heard::Refused(_) => false,
-        Heard::Taken(_) => true,
-    }
-}
-
-fn taken_bytes(heard: Heard) -> usize
-    ensures { λ r. ⌜ r ≡ takenBytes heard ⌝ }
-{
-    match heard {
-        Heard::End => 0,
-        Heard::Cut(_) => 0,
-        Heard::BadFlag(_) => 0,
-        Heard::Refused(_) => 0,
-        Heard::Taken(size) => size,
-    }
-}
-
-// Why no more hops are taken.
-fn print_stop(fd: i32, name: &[u8], place: Place, heard: Heard) -> Place
-    ensures { λ r. ⌜ r ≡ stopped place ⌝ }
-{
-    match heard {
-        Heard::Cut(got) => faults::print_cut(fd, name, place, got),
-        Heard::BadFlag(flag) => faults::print_bad_flag(name, place, flag),
-        Heard::Refused(no) => faults::print_refused(name, place, no),
-        _ => {}
-    }
-    watch_recording::ended(place)
-}
-
-// What the marks of a hop change, told and then taken over.
-fn take_hop(
-    s: Settings,
-    size: usize,
-    place: Place,
-    before: Explanation,
-    bank: &[u16],
-    bank_f: &[f64],
-    worst: &[u16],
-    worst_f: &[f64],
-    gate: &[u16],
-    gate_f: &[f64],
-    db: &[f64],
-    rise: &[u8],
-    drop: &[u8],
-    alive: &mut [u8],
-    alive_hops: &mut [u64],
-    events: &mut [u8],
-    rises: &mut [u64],
-) -> Place
-    ensures { λ r. ⌜ (r, now (alive .exit), now («alive_hops» .exit), now (events .exit), now (rises .exit)) ≡ afterHop place size (now (alive .entry)) (now («alive_hops» .entry)) (now (events .entry)) (now (rises .entry)) (now (rise .entry)) (now (drop .entry)) ⌝ }
-{
-    watch_states::count_rises(rises, alive, rise, drop);
-    watch_states::add_events(events, alive, rise, drop);
-    lines::print_hop(
-        place.hop,
-        s,
-        before,
-        db,
-        bank,
-        bank_f,
-        worst,
-        worst_f,
-        gate,
-        gate_f,
-        alive,
-        events,
-        rise,
-        drop,
-    );
-    watch_states::close_hop(
-        watch_recording::is_slow(place.hop),
-        alive,
-        alive_hops,
-        events,
-        rise,
-        drop,
-    );
-    watch_recording::next_place(place, size)
 }

@@ -5,6 +5,7 @@ pub mod gate_rows;
 pub mod linear_rows;
 pub mod log_rows;
 pub mod map_rows;
+pub mod receive_row;
 pub mod segment_rows;
 pub mod worst_rows;
 

@@ -1,16 +1,9 @@
--- `gate::gate_hold` meets its contract: the gate that it leaves is the one that it judges. Assumes nothing.
+-- `gate::gate_hold` meets its contract. Assumes nothing.
 use mathlib.Core.Path.{_≡_, sym, _∙_}
-use mathlib.Core.List.{List}
-use Prim.Native.Nat.{ℕ}
-use lib.ListN.{length, getD}
-use lib.Ieee.{Float}
-use Rattle.model.specs.Stores.{bankOf}
-use Rattle.model.specs.Gate.{holdStep}
-use Rattle.model.specs.GateStores.{gateOf}
+use lib.ListN.{length}
 use Rattle.model.specs.GateCalls.{holdRefusal}
-use Rattle.gate_cursors.specs.Paired.{Paired}
-use Rattle.gate_step.specs.Steps.{Holds}
-use Rattle.gate.proofs.Calls.{hold-asked, hold-refused, held-marks, left-paired, left-marked, hold-good, hold-n, hold-holds}
+use Rattle.gate.specs.Hops.{Keeps}
+use Rattle.gate.proofs.Calls.{hold-asked, hold-refused, held-marks}
 use borrow.Author.Needs.{needs}
 use Rattle.gate.proofs.gate_hold.Statement.{statement}
 use Rattle.gate.proofs.gate_hold.Tie as tie
@@ -18,34 +11,17 @@ use Rattle.gate.proofs.gate_hold.Tie as tie
 abbrev start : tie.After-hold-refusal → tie.Start
 start q = q .before .before .before .before .before .before .before .before
 
-abbrev BU : tie.Else1 → List ℕ
-BU e = start (e .before) .args .bank .now
-
-abbrev BF : tie.Else1 → List Float
-BF e = start (e .before) .args .bank-f .now
-
-abbrev GU : tie.Else1 → List ℕ
-GU e = start (e .before) .args .gate .now
-
-abbrev GF : tie.Else1 → List Float
-GF e = start (e .before) .args .gate-f .now
-
 -- past the test the hold is not refused
 none : (e : tie.Else1)
-    → holdRefusal (BU e) (BF e) (GU e) (GF e) (length (start (e .before) .args .rise .now)) (length (start (e .before) .args .drop .now)) ≡ 0
+    → let s = start (e .before) in
+    holdRefusal (s .args .bank .now) (s .args .bank-f .now) (s .args .gate .now) (s .args .gate-f .now) (length (s .args .rise .now)) (length (s .args .drop .now)) ≡ 0
 none e = sym (e .before .hold-refusal .ensures) ∙ e .if1 .left
 
 asked : (e : tie.Else1)
-    → Paired (BU e) (BF e) (GU e) (GF e)
-    × (length (start (e .before) .args .rise .now) ≡ getD (GU e) 0 0) × (length (start (e .before) .args .drop .now) ≡ getD (GU e) 0 0)
-asked e = hold-asked (BU e) (BF e) (GU e) (GF e) (length (start (e .before) .args .rise .now)) (length (start (e .before) .args .drop .now)) (none e)
-
--- the stores then hold the gate that the hold leaves
-holds : (r : tie.After-refresh-started)
-    → Holds (holdStep (gateOf (GU (r .before .before)) (GF (r .before .before))) (bankOf (BU (r .before .before)) (BF (r .before .before)))) (GU (r .before .before))
-    (r .refresh-started .last .1 .1 .1 .0)
-holds r = let e = r .before .before in
-    hold-holds (BU e) (BF e) (GU e) (GF e) (asked e .0) (r .refresh-started .last .1 .1 .1 .0) (r .refresh-started .ensures)
+    → let s = start (e .before) in
+    Keeps (s .args .bank .now) (s .args .bank-f .now) (s .args .gate .now) (s .args .gate-f .now) (length (s .args .rise .now)) (length (s .args .drop .now))
+asked e = let s = start (e .before) in
+    hold-asked (s .args .bank .now) (s .args .bank-f .now) (s .args .gate .now) (s .args .gate-f .now) (length (s .args .rise .now)) (length (s .args .drop .now)) (none e)
 
 hold-refusal-requires : tie.Need-hold-refusal-requires
 hold-refusal-requires c κs = search needs
@@ -56,13 +32,8 @@ same-length c = search needs
 returns : tie.Need-returns
 returns c = hold-refused _ _ _ _ _ _ _ (c .before .hold-refusal .ensures) (c .if1 .taken)
 
-refresh-started-requires : tie.Need-refresh-started-requires
-refresh-started-requires c κs = asked (c .before) .0
-
-judge-requires : tie.Need-judge-requires
-judge-requires c κs = let r = c .before .before .before .before .before in
-    let e = r .before .before in
-    (left-paired _ _ _ _ (asked e .0) _ (hold-good _ _ _ _ (asked e .0)) (hold-n _ _ _ _ (asked e .0)) _ _ (holds r), asked e .1, asked e .2)
+take-hold-requires : tie.Need-take-hold-requires
+take-hold-requires c κs = asked (c .before .before .before)
 
 same-length-2 : tie.Need-same-length-2
 same-length-2 c = search needs
@@ -74,11 +45,9 @@ same-length-4 : tie.Need-same-length-4
 same-length-4 c = search needs
 
 returns-2 : tie.Need-returns-2
-returns-2 c = let j = c .before .before .before .before in
-    let r = j .before .before .before .before .before .before in
-    let e = r .before .before in
-    held-marks _ _ _ _ _ _ _ _ _ (none e) (r .refresh-started .ensures)
-    (left-marked _ _ _ _ (asked e .0) _ (hold-good _ _ _ _ (asked e .0)) (hold-n _ _ _ _ (asked e .0)) _ _ (holds r) _ _ _ (j .judge .ensures))
+returns-2 c = let t = c .before .before .before .before .before .before in
+    let e = t .before .before .before .before in
+    held-marks _ _ _ _ _ _ _ _ _ (none e) (t .take-hold .ensures)
 
 pub gate-hold-spec : {M : Type 1} → statement M
 gate-hold-spec =
@@ -87,8 +56,7 @@ gate-hold-spec =
     hold-refusal-requires
     same-length
     returns
-    refresh-started-requires
-    judge-requires
+    take-hold-requires
     same-length-2
     same-length-3
     same-length-4

@@ -1,6 +1,5 @@
-use mathlib.Core.Path.{_≡_, refl, sym, ap, _∙_}
-use mathlib.Core.Bool.{Bool, true}
-use mathlib.Core.List.{List}
+use mathlib.Core.Path.{_≡_, sym, ap, _∙_}
+use mathlib.Core.Bool.{true}
 use Prim.Native.Nat.{ℕ, _≤_, _-_, _+_, _*_}
 use native.Mathlib.Omega.{arith}
 use borrow.Author.Tests.{not-true, not-false}
@@ -10,16 +9,13 @@ use Rattle.laws.specs.Tests.{allBelow}
 use Rattle.laws.proofs.Lists.{width, length-part}
 use Rattle.laws.proofs.Tests.{all-more, all-fails, all-done}
 use Rattle.model.specs.Layout.{channelLen}
-use Rattle.model.specs.Stores.{base, chanOf, chanPart, soundChannel}
-use Rattle.stores.specs.Checks.{soundChannels}
+use Rattle.model.specs.Stores.{base, chanOf, soundChannel}
+use Rattle.stores.specs.Checks.{isSound, soundChannels}
 use Rattle.stores.proofs.channels_sound.Statement.{statement}
 use Rattle.stores.proofs.channels_sound.Tie as tie
 
-abbrev right : List ℕ → ℕ → ℕ → Bool
-right u n k = soundChannel (chanOf (chanPart n u k))
-
 abbrev Inv-loop : tie.InvT-loop
-Inv-loop bank n start k₀ k = (k ≤ n) × (allBelow k (right bank n) ≡ true)
+Inv-loop bank n start k₀ k = (k ≤ n) × (allBelow k (isSound bank n) ≡ true)
 
 abbrev μ-loop : tie.MeasureT-loop
 μ-loop bank n start k₀ k = n - k
@@ -27,20 +23,22 @@ abbrev μ-loop : tie.MeasureT-loop
 -- what the call says of channel k, with the part's place and width worked out
 answer : (c : tie.After-channel-sound Inv-loop μ-loop)
     → c .channel-sound .result
-    ≡ right (c .before .before .before .before .before .before .args .bank .now) (c .before .before .before .before .before .before .args .n)
+    ≡ isSound (c .before .before .before .before .before .before .before .args .bank .now) (c .before .before .before .before .before .before .before .args .n)
     (c .before .before .before .loop .k)
 answer c = let l = c .before .before .before in
-    let u = l .before .before .before .args .bank .now in
+    let u = l .before .before .before .before .args .bank .now in
     c .channel-sound .ensures
-    ∙ ap (λ (w : ℕ). soundChannel (chanOf (part (l .before .base .result + channelLen * l .loop .k) w u))) (width (l .before .base .result + channelLen * l .loop .k) channelLen)
-    ∙ ap (λ (b : ℕ). soundChannel (chanOf (part (b + channelLen * l .loop .k) channelLen u))) (l .before .base .ensures .0)
+    ∙ ap (λ (w : ℕ). soundChannel (chanOf (part (l .before .before .base .result + channelLen * l .loop .k) w u))) (width (l .before .before .base .result + channelLen * l .loop .k) channelLen)
+    ∙ ap (λ (b : ℕ). soundChannel (chanOf (part (b + channelLen * l .loop .k) channelLen u))) (l .before .before .base .ensures .0)
 
 base-requires : tie.Need-base-requires Inv-loop μ-loop
 base-requires c κs = search needs
 
+sound-eights-requires : tie.Need-sound-eights-requires Inv-loop μ-loop
+sound-eights-requires c κs = search needs
+
 loop-holds : tie.Need-loop-holds Inv-loop μ-loop
-unfolding allBelow
-loop-holds c = (search needs, refl)
+loop-holds c = search needs
 
 mul-a : tie.Need-mul-a Inv-loop μ-loop
 mul-a c = search needs
@@ -65,16 +63,16 @@ part-channel-sound-end c = search needs
 
 channel-sound-requires : tie.Need-channel-sound-requires Inv-loop μ-loop
 channel-sound-requires c κs = let l = c .before .before in
-    let s = l .before .before .before in
-    let a = l .before .base .result + channelLen * l .loop .k in
+    let s = l .before .before .before .before in
+    let a = l .before .before .base .result + channelLen * l .loop .k in
     rw (width a channelLen) (length-part a channelLen (s .args .bank .now) (omega arith))
 
 returns : tie.Need-returns Inv-loop μ-loop
 unfolding soundChannels
 returns c = let q = c .before in
     let l = q .before .before .before in
-    let s = l .before .before .before in
-    sym (all-fails (right (s .args .bank .now) (s .args .n)) (s .args .n) (l .loop .k) (omega arith) (sym (answer q) ∙ not-true _ (c .if1 .taken)))
+    let s = l .before .before .before .before in
+    sym (all-fails (isSound (s .args .bank .now) (s .args .n)) (s .args .n) (l .loop .k) (omega arith) (sym (answer q) ∙ not-true _ (c .if1 .taken)))
 
 add-k : tie.Need-add-k Inv-loop μ-loop
 add-k c = search needs
@@ -85,14 +83,14 @@ loop-less c = search needs
 loop-again : tie.Need-loop-again Inv-loop μ-loop
 loop-again c = let q = c .before in
     let l = q .before .before .before in
-    let s = l .before .before .before in
-    (omega arith, all-more (right (s .args .bank .now) (s .args .n)) (l .loop .k) (l .loop .inv .1) (sym (answer q) ∙ not-false _ (c .if1 .left)))
+    let s = l .before .before .before .before in
+    (omega arith, all-more (isSound (s .args .bank .now) (s .args .n)) (l .loop .k) (l .loop .inv .1) (sym (answer q) ∙ not-false _ (c .if1 .left)))
 
 returns-2 : tie.Need-returns-2 Inv-loop μ-loop
 unfolding soundChannels
 returns-2 c = let l = c .before in
-    let s = l .before .before .before in
-    all-done (right (s .args .bank .now) (s .args .n)) (l .loop .k) (s .args .n) (omega arith) (l .loop .inv .1)
+    let s = l .before .before .before .before in
+    all-done (isSound (s .args .bank .now) (s .args .n)) (l .loop .k) (s .args .n) (omega arith) (l .loop .inv .1)
 
 pub channels-sound-spec : {M : Type 1} → statement M
 channels-sound-spec =
@@ -101,6 +99,7 @@ channels-sound-spec =
     Inv-loop
     μ-loop
     base-requires
+    sound-eights-requires
     loop-holds
     mul-a
     add-a

@@ -1,0 +1,4 @@
+pub mod Taken
+pub mod Beside
+pub mod Runs
+pub mod Claims

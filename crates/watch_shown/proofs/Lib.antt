@@ -1,0 +1,2 @@
+pub mod AsCalls
+pub mod Whole

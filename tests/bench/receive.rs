@@ -1,0 +1,114 @@
+// A run of hops beside floor.rs's two updates of each of them, and the same hops by single calls. Whole stretches are timed, slow hops and the hop
+// that sums afresh in them on every side; what is told is the time of one hop.
+use crate::floor::{FloorBank, Gate};
+use crate::numbers::Feed;
+use crate::{hops, median, time, wolfcloak, LENGTHS};
+
+/// Hops of a stretch, two seconds: the longest windows are summed afresh once in it.
+const STRETCH: usize = 750;
+/// Hops after which rings and windows are full.
+const WARM: usize = 6 * STRETCH;
+const HOPS_A_SECOND: f64 = 375.0;
+
+/// The hops of a stretch one after another, as runs are lent them.
+struct Air {
+    n: usize,
+    hold: Vec<u8>,
+    db: Vec<f64>,
+    power: Vec<f32>,
+}
+
+impl Air {
+    fn noise(n: usize) -> Air {
+        let hops = hops(n, Feed::Noise);
+        let (db, power): (Vec<_>, Vec<_>) = (0..STRETCH).map(|i| hops[i % hops.len()].clone()).unzip();
+        Air { n, hold: vec![0; STRETCH], db: db.concat(), power: power.concat() }
+    }
+}
+
+struct Set {
+    u: Vec<u16>,
+    f: Vec<f64>,
+    g: Vec<u16>,
+    h: Vec<f64>,
+    rise: Vec<u8>,
+    drop: Vec<u8>,
+}
+
+impl Set {
+    fn new(bank: &FloorBank, gate: &Gate, n: usize) -> Set {
+        let ((u, f), (g, h)) = (bank.to_stores(), gate.to_stores());
+        Set { u, f, g, h, rise: vec![0; STRETCH * n], drop: vec![0; STRETCH * n] }
+    }
+
+    fn by_runs(&mut self, air: &Air, run: usize) {
+        for from in (0..STRETCH).step_by(run) {
+            let its = from * air.n..(from + run) * air.n;
+            let hops = (&air.hold[from..from + run], &air.db[its.clone()], &air.power[its.clone()]);
+            let marks = (&mut self.rise[its.clone()], &mut self.drop[its]);
+            assert_eq!(wolfcloak::receive((&mut self.u, &mut self.f), (&mut self.g, &mut self.h), hops, marks), 0);
+        }
+    }
+
+    fn one_by_one(&mut self, air: &Air) {
+        for from in (0..STRETCH * air.n).step_by(air.n) {
+            let its = from..from + air.n;
+            let (db, power) = (&air.db[its.clone()], &air.power[its.clone()]);
+            let marks = (&mut self.rise[its.clone()], &mut self.drop[its]);
+            assert_eq!(wolfcloak::bank_update(&mut self.u, &mut self.f, db, power, None), 0);
+            assert_eq!(wolfcloak::gate_update((&self.u, &self.f), (&mut self.g, &mut self.h), (db, power), marks), 0);
+        }
+    }
+}
+
+/// The last hop's marks.
+fn old_hear(bank: &mut FloorBank, gate: &mut Gate, air: &Air) -> (Vec<bool>, Vec<bool>) {
+    let mut marks = (vec![], vec![]);
+    for (db, power) in air.db.chunks(air.n).zip(air.power.chunks(air.n)) {
+        bank.update(db, power);
+        marks = gate.update(db, power, bank);
+    }
+    marks
+}
+
+/// How a set is fed, and how many times floor.rs's time is aimed at, for 32 channels and for 512.
+type Way = (&'static str, fn(&mut Set, &Air), [f64; 2]);
+
+const WAYS: [Way; 3] = [
+    ("runs of 375 hops", |set, air| set.by_runs(air, 375), [1.0; 2]),
+    ("runs of 25 hops", |set, air| set.by_runs(air, 25), [1.5; 2]),
+    ("single calls", |set, air| set.one_by_one(air), [10.0, 5.0]),
+];
+
+pub fn rows(n: usize, rounds: usize) {
+    let air = Air::noise(n);
+    let (mut bank, mut gate) = (FloorBank::new(n), Gate::made(n, [48, 16, 96], &LENGTHS));
+    let mut sets = WAYS.map(|_| Set::new(&bank, &gate, n));
+    let (mut times, mut old_times): ([Vec<f64>; WAYS.len()], Vec<f64>) = Default::default();
+    for round in 0..WARM / STRETCH + rounds {
+        let mut marks = (vec![], vec![]);
+        let old = time(|| marks = old_hear(&mut bank, &mut gate, &air));
+        let is_warm = round >= WARM / STRETCH;
+        old_times.extend(is_warm.then_some(old / STRETCH as f64));
+        // which of them comes right after floor.rs changes from round to round
+        for i in (0..WAYS.len()).map(|i| (i + round) % WAYS.len()) {
+            let ours = time(|| WAYS[i].1(&mut sets[i], &air));
+            times[i].extend(is_warm.then_some(ours / STRETCH as f64));
+            let last = &sets[i].rise[(STRETCH - 1) * n..];
+            assert!(marks.0.iter().zip(last).all(|(&mark, &byte)| mark as u8 == byte));
+        }
+    }
+    for set in &sets {
+        assert!(bank.to_stores().0 == set.u && gate.words() == set.g);
+    }
+    let (times, old) = (times.map(median), median(old_times));
+    println!("both updates of a hop, n = {n}, window lengths 15, 75, 375");
+    for ((what, _, aims), ours) in WAYS.into_iter().zip(times) {
+        let aim = aims[(n > 32) as usize];
+        println!("  {what:<22} {ours:9.2} µs   floor.rs {old:9.2} µs   ratio {:7.2}   (the aim is {aim:.1})", ours / old);
+    }
+    for ((what, ..), ours) in WAYS.into_iter().zip(times) {
+        let segments = 1e6 / HOPS_A_SECOND / ours;
+        println!("  one core keeps up with {segments:7.1} segments of {n}, {:8.0} channels, by {what}", segments * n as f64);
+    }
+}
