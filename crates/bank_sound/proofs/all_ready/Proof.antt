@@ -1,87 +1,25 @@
 use mathlib.Core.Path.{sym}
-use Prim.Native.Nat.{ℕ, _≤_, _<_, _-_, _+_, _*_}
-use native.Mathlib.Omega.{arith}
 use borrow.Author.Needs.{needs}
-use borrow.Author.Tests.{not-false}
-use Rattle.laws.proofs.Lists.{width, length-part}
+use borrow.Author.Tests.{not-false, ltb-true}
 use Rattle.laws.proofs.Tests.{clash}
-use Rattle.model.specs.Layout.{channelLen}
-use Rattle.bank_sound.specs.Rows.{chanAt, Ready}
-use Rattle.bank_sound.proofs.Rows.{below-more}
+use Rattle.model.specs.Layout.{bins}
+use Rattle.bank_sound.proofs.Rows.{all-bins}
 use Rattle.bank_sound.proofs.all_ready.Statement.{statement}
 use Rattle.bank_sound.proofs.all_ready.Tie as tie
 
-abbrev Inv-loop : tie.InvT-loop
-Inv-loop bank from k₀ k = (k ≤ 8) × ((j : ℕ) → j < k → Ready (chanAt from bank j))
+all-full-requires : tie.Need-all-full-requires
+all-full-requires c κs = search needs
 
-abbrev μ-loop : tie.MeasureT-loop
-μ-loop bank from k₀ k = 8 - k
-
-loop-holds : tie.Need-loop-holds Inv-loop μ-loop
-loop-holds c = (search needs, (λ j l. absurd (omega arith)))
-
-mul-a : tie.Need-mul-a Inv-loop μ-loop
-mul-a c = search needs
-
-add-a : tie.Need-add-a Inv-loop μ-loop
-add-a c = search needs
-
-add-e : tie.Need-add-e Inv-loop μ-loop
-add-e c = search needs
-
-mul-is-ready : tie.Need-mul-is-ready Inv-loop μ-loop
-mul-is-ready c = search needs
-
-sub-is-ready : tie.Need-sub-is-ready Inv-loop μ-loop
-sub-is-ready c = search needs
-
-part-is-ready-start : tie.Need-part-is-ready-start Inv-loop μ-loop
-part-is-ready-start c = search needs
-
-part-is-ready-end : tie.Need-part-is-ready-end Inv-loop μ-loop
-part-is-ready-end c = search needs
-
-is-ready-requires : tie.Need-is-ready-requires Inv-loop μ-loop
-is-ready-requires c κs = let l = c .before .before in
-    let s = l .before .before in
-    let a = s .args .from + channelLen * l .loop .k in
-    rw (width a channelLen) (length-part a channelLen (s .args .bank .now) (omega arith))
-
-returns : tie.Need-returns Inv-loop μ-loop
+returns : tie.Need-returns
 returns c = λ e. clash (sym e)
 
-add-k : tie.Need-add-k Inv-loop μ-loop
-add-k c = search needs
+highest-entry-requires : tie.Need-highest-entry-requires
+highest-entry-requires c κs = search needs
 
-loop-less : tie.Need-loop-less Inv-loop μ-loop
-loop-less c = search needs
-
-loop-again : tie.Need-loop-again Inv-loop μ-loop
-loop-again c = let l = c .before .before .before .before in
-    let s = l .before .before in
-    let a = s .args .from + channelLen * l .loop .k in
-    (omega arith, below-more (λ j. Ready (chanAt (s .args .from) (s .args .bank .now) j)) (l .loop .k) (l .loop .inv .1) (rw (width a channelLen) at (c .before .is-ready .ensures (not-false _ (c .if1 .left)))))
-
-returns-2 : tie.Need-returns-2 Inv-loop μ-loop
-returns-2 c = λ e k h. c .before .loop .inv .1 k (omega arith)
+returns-2 : tie.Need-returns-2
+returns-2 c = let q = c .before in
+    let s = q .before .before .before in
+    λ e. all-bins (s .args .from) (s .args .bank .now) (c .highest-entry .result) (ltb-true (c .highest-entry .result) bins e) (c .highest-entry .ensures) (q .before .all-full .ensures (not-false _ (q .if1 .left)))
 
 pub all-ready-spec : {M : Type 1} → statement M
-all-ready-spec =
-    tie.close
-    (tie.spec
-    Inv-loop
-    μ-loop
-    loop-holds
-    mul-a
-    add-a
-    add-e
-    mul-is-ready
-    sub-is-ready
-    part-is-ready-start
-    part-is-ready-end
-    is-ready-requires
-    returns
-    add-k
-    loop-less
-    loop-again
-    returns-2)
+all-ready-spec = tie.close (tie.spec all-full-requires returns highest-entry-requires returns-2)
