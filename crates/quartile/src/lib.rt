@@ -22,7 +22,7 @@ struct Reached {
 }
 
 // The entries in the stretch that begins at bin b, by their counts: a loop without a way out, so that it can run several lanes wide.
-// 16 bits hold the sum, since all counts come to filled.
+// 16 bits hold the sum: all counts come to filled, and that is at most the ring's length.
 fn stretch_sum(chan: &[u16], b: usize) -> u16
     requires { ⌜ (length (now chan) ≡ channelLen) × Sound ringLen bins (chanOf (now chan)) ⌝ }
     requires { ⌜ b + stretch ≤ bins ⌝ }

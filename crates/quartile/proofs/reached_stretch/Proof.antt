@@ -1,8 +1,7 @@
 -- `quartile::reached_stretch` meets its contract. The loop's invariant is that of a scan before bin b, which is where a stretch begins.
 -- The measure is how many bins are left: the rank is reached inside, so a whole stretch is left at each turn. Assumes nothing.
-use mathlib.Core.Path.{_≡_, refl, _∙_}
-use mathlib.Core.List.{List}
-use Prim.Native.Nat.{ℕ, _+_, _-_, _%_, _<_, _≤_}
+use mathlib.Core.Path.{_≡_, refl}
+use Prim.Native.Nat.{ℕ, _+_, _-_, _%_, _≤_}
 use native.Mathlib.Omega.{arith}
 use lib.Dec.{ltb}
 use borrow.Author.Needs.{needs}

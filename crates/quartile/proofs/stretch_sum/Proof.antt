@@ -1,6 +1,6 @@
 -- `quartile::stretch_sum` meets its contract. The loop's invariant: the entries below bin b and the sum come to the entries below bin b + i.
 -- Those are at most filled, so the sum stays within 16 bits. Assumes nothing.
-use mathlib.Core.Path.{_≡_, sym, ap, _∙_}
+use mathlib.Core.Path.{_≡_, ap, _∙_}
 use mathlib.Core.List.{List}
 use Prim.Native.Nat.{ℕ, _+_, _-_, _<_, _≤_}
 use native.Mathlib.Omega.{arith}
@@ -31,6 +31,7 @@ bin-more l b i s h =
     let next : b + (i + 1) ≡ b + i + 1 = omega arith in
     omega (arith, ap (λ (k : ℕ). getD l k 0) at ∙ count-at l (b + i) s h, under-more (b + i) (entries (chanOf l)), ap (λ (k : ℕ). entriesBelow k (chanOf l)) next)
 
+-- the same of a turn, with the sum so far
 turned : (c : tie.After-shared-slice-known Inv-loop μ-loop)
     → (let l = c .before .before in
     let a = l .before .args in
