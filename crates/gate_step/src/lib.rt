@@ -46,7 +46,7 @@ fn smooth_db(gate_f: &mut [f64], gate: &[u16], power_db: &[f64])
     follow_db(&mut gate_f[0..n], power_db);
 }
 
-// Each length takes the hop: its windows stand one after another behind the smoothed dB.
+// Each length takes the hop's samples: its windows stand one after another behind the smoothed dB.
 fn step_looks(gate: &mut [u16], gate_f: &mut [f64], samples: &[f64])
     requires { ⌜ GateReady (now gate) (now «gate_f») × (length (now samples) ≡ getD (now gate) 0 0) ⌝ }
     ensures { λ _. ⌜ Holds (looksStep (now (samples .entry)) (gateOf (now (gate .entry)) (now («gate_f» .entry)))) (now (gate .exit)) (now («gate_f» .exit)) ⌝ }
@@ -66,6 +66,7 @@ fn step_looks(gate: &mut [u16], gate_f: &mut [f64], samples: &[f64])
     }
 }
 
+// The powers become samples once, since every length takes the same ones.
 pub fn step(gate: &mut [u16], gate_f: &mut [f64], power_db: &[f64], power: &[f32])
     requires { ⌜ GateReady (now gate) (now «gate_f») × (length (now «power_db») ≡ getD (now gate) 0 0) × (length (now power) ≡ getD (now gate) 0 0) ⌝ }
     ensures { λ _. ⌜ Holds (gateStep (gateOf (now (gate .entry)) (now («gate_f» .entry))) (now («power_db» .entry)) (now (power .entry))) (now (gate .exit)) (now («gate_f» .exit)) ⌝ }

@@ -27,21 +27,9 @@ smoothed p = p .before .before .before .before
 few : (s : tie.Start) → length (s .args .power .now) ≤ 512
 few s = omega (arith, s .pre .2, sizes (s .args .gate .now) (s .args .gate-f .now) (s .pre .0) .high)
 
+-- as it is before the samples are in it
 abbrev array : List Float
 array = replicate 512 f0
-
--- the samples that are lent to the windows
-samples-now : (p : tie.After-start-powers)
-    → let power = start (smoothed p) .args .power .now in
-    take (length power) (p .start-powers .last .0 ++ drop (length power) array) ≡ tab (length power) (sampleOf power)
-samples-now p = let s = start (smoothed p) in
-    samples-are array (p .start-powers .last .0) (s .args .power .now) (few s) (p .start-powers .ensures)
-
-samples-long : (p : tie.After-start-powers)
-    → let power = start (smoothed p) .args .power .now in
-    length (take (length power) (p .start-powers .last .0 ++ drop (length power) array)) ≡ length power
-samples-long p = let power = start (smoothed p) .args .power .now in
-    ap length (samples-now p) ∙ length-tab (length power) (sampleOf power)
 
 smooth-db-requires : tie.Need-smooth-db-requires
 smooth-db-requires c κs = search needs
@@ -56,6 +44,19 @@ slice-aggregate-start-powers c = let s = start (c .before .before .before) in
 start-powers-requires : tie.Need-start-powers-requires
 start-powers-requires c κs = let s = start (c .before .before .before) in
     sym (length-take-le (length (s .args .power .now)) array (few s))
+
+-- the samples that are lent to the windows
+samples-now : (p : tie.After-start-powers)
+    → let power = start (smoothed p) .args .power .now in
+    take (length power) (p .start-powers .last .0 ++ drop (length power) array) ≡ tab (length power) (sampleOf power)
+samples-now p = let s = start (smoothed p) in
+    samples-are array (p .start-powers .last .0) (s .args .power .now) (few s) (p .start-powers .ensures)
+
+samples-long : (p : tie.After-start-powers)
+    → let power = start (smoothed p) .args .power .now in
+    length (take (length power) (p .start-powers .last .0 ++ drop (length power) array)) ≡ length power
+samples-long p = let power = start (smoothed p) .args .power .now in
+    ap length (samples-now p) ∙ length-tab (length power) (sampleOf power)
 
 array-share-prefix-samples : tie.Need-array-share-prefix-samples
 array-share-prefix-samples c = let p = c .before .before .before in
