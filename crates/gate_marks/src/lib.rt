@@ -24,7 +24,7 @@ pub fn early_rise(early: u16, smoothed: f64, effective: f64) -> bool
     smoothed >= effective + gate_pairs::level(early)
 }
 
-// The level of `off` in dB.
+// off: its level in dB.
 fn drop_at(off: f64, smoothed: f64, effective: f64) -> bool
     ensures { λ r. ⌜ r ≡ lt smoothed (add binary64 effective off) ⌝ }
 {

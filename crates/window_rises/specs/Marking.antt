@@ -1,4 +1,4 @@
--- Rises as marks: a byte for each channel, 0 while no length has been found to rise.
+-- Rises as marks: a number for each channel, 0 until something is found to rise.
 use mathlib.Core.Bool.{Bool, not, _&&_}
 use mathlib.Core.List.{List}
 use Prim.Native.Nat.{ℕ, zero, suc}

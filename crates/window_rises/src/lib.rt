@@ -2,7 +2,6 @@
 ghost use mathlib.Core.Path.{_≡_};
 ghost use Prim.Native.Nat.{_+_, _%_, _<_, _≤_};
 ghost use lib.ListN.{length, getD};
-ghost use lib.IntN.{pos};
 ghost use lib.Ieee.{binary64, mul};
 ghost use Rattle.laws.specs.Lists.{tab};
 ghost use Rattle.model.specs.Numbers.{f0};
@@ -100,5 +99,11 @@ pub fn mark_look(look: &[f64], c: Cursor, thresholds: &[f64], rise: &mut [u8])
     let recent = 2 * m * n;
     let previous = recent + n;
     let end = previous + n;
-    mark_full(&look[recent..previous], &look[previous..end], thresholds, m as f64, rise);
+    mark_full(
+        &look[recent..previous],
+        &look[previous..end],
+        thresholds,
+        m as f64,
+        rise,
+    );
 }

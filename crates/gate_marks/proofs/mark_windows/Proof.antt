@@ -1,25 +1,24 @@
 -- `gate_marks::mark_windows` meets its contract: the first j lengths are tested, and `at` is where length j begins. Assumes nothing.
-use mathlib.Core.Path.{_≡_, refl, sym, ap, subst, _∙_}
-use mathlib.Core.Bool.{Bool}
+use mathlib.Core.Path.{_≡_, refl, sym, ap, _∙_}
 use mathlib.Core.List.{List}
 use Prim.Native.Nat.{ℕ, _+_, _-_, _*_, _<_, _≤_}
 use native.Mathlib.Numerals.{add-one}
 use native.Mathlib.Omega.{arith}
 use lib.ListN.{length, getD}
 use lib.Ieee.{Float}
-use Rattle.laws.specs.Lists.{part, tab}
+use Rattle.laws.specs.Lists.{tab}
 use Rattle.laws.proofs.Lists.{length-part}
 use Rattle.laws.proofs.Tabs.{length-tab, tab-ext}
 use Rattle.model.specs.Numbers.{f0}
 use Rattle.model.specs.Windows.{lookRises}
-use Rattle.model.specs.GateStores.{mAt, lookSize, gateOf}
+use Rattle.model.specs.GateStores.{mAt, lookSize}
 use Rattle.cursors.specs.declared.Cursor.{Cursor}
 use Rattle.model.specs.GoodGate.{GateReady}
 use Rattle.model.proofs.GateStores.{startAt}
 use Rattle.model.proofs.GoodGates.{sizes}
 use Rattle.window_rises.specs.Marking.{marked}
 use Rattle.gate_cursors.proofs.Lengths.{smooth-within, lent-within, lent-fits, lent-looks, small-length}
-use Rattle.gate_marks.proofs.Marks.{rises, markAfter, none-yet, one-more, all-tested, thresholds-are}
+use Rattle.gate_marks.proofs.Marks.{markAfter, none-yet, one-more, all-tested, thresholds-are}
 use borrow.Author.Needs.{needs}
 use Rattle.gate_marks.proofs.mark_windows.Statement.{statement}
 use Rattle.gate_marks.proofs.mark_windows.Tie as tie

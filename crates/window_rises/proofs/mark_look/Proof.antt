@@ -1,18 +1,17 @@
 -- Windows that are not full rise for no channel; those of a full length are tested where their sums lie in the part. Assumes nothing.
-use mathlib.Core.Path.{_≡_, sym, ap, _∙_}
-use mathlib.Core.Bool.{Bool, true, false, not, _&&_}
+use mathlib.Core.Path.{_≡_, ap, _∙_}
+use mathlib.Core.Bool.{false}
 use Prim.Native.Nat.{ℕ, _+_, _*_, _^_}
 use native.Mathlib.Omega.{arith}
-use lib.Dec.{eqb, le→leb}
+use lib.Dec.{le→leb}
 use lib.IntN.{pos}
 use lib.ListN.{length, getD}
 use lib.Ieee.{Float, binary64, mul, ofInt, inFloat}
 use borrow.Author.Tests.{eq-eqb, ne-eqb}
-use Rattle.laws.specs.Lists.{part}
 use Rattle.laws.proofs.Lists.{width, length-part}
 use Rattle.laws.proofs.Tabs.{tab-ext}
 use Rattle.model.specs.Numbers.{f0}
-use Rattle.model.specs.Windows.{PowerLooks, besideStronger, lookRises}
+use Rattle.model.specs.Windows.{PowerLooks, lookRises}
 use Rattle.windows.specs.Looks.{looksIn}
 use Rattle.window_rises.specs.Marking.{marked, sumsRise}
 use Rattle.window_rises.proofs.Marking.{none-marked}
