@@ -1,10 +1,11 @@
 -- Laws on channels one after another and on four tallies, one for each of four. Assumes nothing.
-use mathlib.Core.Path.{_≡_, sym, ap, ap₂, _∙_}
+use mathlib.Core.Path.{_≡_, refl, sym, ap, ap₂, subst, _∙_}
 use mathlib.Core.Bool.{Bool, true}
 use mathlib.Core.List.{List}
-use Prim.Native.Nat.{ℕ, _+_, _-_, _*_, _<_, _≤_}
+use Prim.Native.Nat.{ℕ, zero, suc, _+_, _-_, _*_, _<_, _≤_}
 use native.Mathlib.Nat.{add-zero}
 use native.Mathlib.Omega.{arith}
+use native.Mathlib.Numerals.{add-one}
 use lib.Dec.{eqb, ltb}
 use lib.ListN.{length, getD, take, set, replicate, length-replicate, length-set, getD-replicate}
 use lib.Seq.{length-take-le}
@@ -156,16 +157,67 @@ all-bins from u x lx h f k lk =
     ready-by (chanAt from u k) (f k lk)
     (λ i li. omega (arith, getD-part (from + channelLen * k) channelLen u i 0 (omega arith), h k i lk li))
 
--- what the two lists of tallies bear out is sound
-pub eight-by : (from : ℕ) (u t v : List ℕ) → from + 8 * channelLen ≤ length u → ((k : ℕ) → k < 8 → Ready (chanAt from u k))
-    → Rows ringLen 0 from u t → Rows ringLen 0 (from + 4 * channelLen) u v
-    → allBelow bins (rowBorneOut u from t) ≡ true → allBelow bins (rowBorneOut u (from + 4 * channelLen) v) ≡ true
-    → (k : ℕ) → k < 8 → soundChannel (chanOf (chanAt from u k)) ≡ true
-eight-by from u t v h y rt rv et ev k l =
-    by-test (ltb k 4)
-    (λ e. borne-out-sound from u (omega arith) t k (ltb-true k 4 e) (y k l) rt et)
-    (λ e.
-    let n : 4 ≤ k = ltb-false k 4 e in
-    let d : from + channelLen * k ≡ from + 4 * channelLen + channelLen * (k - 4) = omega arith in
-    ap (λ (a : ℕ). soundChannel (chanOf (part a channelLen u))) d
-    ∙ borne-out-sound (from + 4 * channelLen) u (omega arith) v (k - 4) (omega arith) (ready-behind from u y (k - 4) (omega arith)) rv ev)
+-- ---- bins above all entries
+
+occ-absent : (x : ℕ) (l : List ℕ) (n : ℕ) → n ≤ length l → ((i : ℕ) → i < n → getD l i 0 ≡ x → ⊥) → occ x (take n l) ≡ 0
+occ-absent x l zero h d = refl
+occ-absent x l (suc n) h d =
+    ap (λ (k : ℕ). occ x (take k l)) (sym (add-one n)) ∙ occ-step x l n h
+    ∙ ap₂ _+_ (occ-absent x l n (omega arith) (λ i k. d i (omega arith))) (ap one (ne-eqb x (getD l n 0) (λ e. d n (omega arith) (sym e))))
+
+-- there the tallies are 0, so that counts of 0 are borne out
+pub borne-all : (from top : ℕ) (u t : List ℕ) → from + 4 * channelLen ≤ length u → Rows ringLen 0 from u t
+    → ((k i : ℕ) → k < 4 → i < ringLen → getD u (from + channelLen * k + i) 0 < top)
+    → ((k b : ℕ) → k < 4 → top ≤ b → b < bins → getD u (from + channelLen * k + (atCounts + b)) 0 ≡ 0)
+    → allBelow top (rowBorneOut u from t) ≡ true → allBelow bins (rowBorneOut u from t) ≡ true
+borne-all from top u t h r low none e =
+    all-true (rowBorneOut u from t) bins
+    (λ b lb. by-test (ltb b top)
+    (λ d. all-at (rowBorneOut u from t) top b e (ltb-true b top d))
+    (λ d.
+    let n : top ≤ b = ltb-false b top d in
+    all-true (isBorneOut u from t b) 4
+    (λ k lk.
+    eq-eqb (getD u (from + channelLen * k + (atCounts + b)) 0) (getD t (k * bins + b) 0)
+    (none k b lk n lb
+    ∙ sym
+    (r .sums k b lk lb
+    ∙ ap (λ (v : Bool). occ b (take (ringLen + one v) (chanAt from u k))) (le-ltb k 0 (omega arith))
+    ∙ ap (λ (m : ℕ). occ b (take m (chanAt from u k))) (add-zero ringLen)
+    ∙ occ-absent b (chanAt from u k) ringLen (omega (arith, long-chan from u h k lk))
+    (λ i li q. omega (arith, low k i lk li, q, entry-is from u h k i (omega arith))))))))
+
+-- ---- eight channels whose entries are below top, and whose counts from there on are 0
+
+module _ (from top : ℕ) (u : List ℕ) (h : from + 8 * channelLen ≤ length u)
+    (low : (k i : ℕ) → k < 8 → i < ringLen → getD u (from + channelLen * k + i) 0 < top)
+    (none : (k b : ℕ) → k < 8 → top ≤ b → b < bins → getD u (from + channelLen * k + (atCounts + b)) 0 ≡ 0)
+    (y : (k : ℕ) → k < 8 → Ready (chanAt from u k)) where
+  place-behind : (k i : ℕ) → from + channelLen * (k + 4) + i ≡ from + 4 * channelLen + channelLen * k + i
+  place-behind k i = omega arith
+
+  front : (t : List ℕ) → Rows ringLen 0 from u t → allBelow top (rowBorneOut u from t) ≡ true → (k : ℕ) → k < 4 → soundChannel (chanOf (chanAt from u k)) ≡ true
+  front t r e k l =
+      borne-out-sound from u (omega arith) t k l (y k (omega arith)) r
+      (borne-all from top u t (omega arith) r (λ k i lk. low k i (omega arith)) (λ k b lk. none k b (omega arith)) e)
+
+  behind : (v : List ℕ) → Rows ringLen 0 (from + 4 * channelLen) u v → allBelow top (rowBorneOut u (from + 4 * channelLen) v) ≡ true
+      → (k : ℕ) → k < 4 → soundChannel (chanOf (chanAt (from + 4 * channelLen) u k)) ≡ true
+  behind v r e k l =
+      borne-out-sound (from + 4 * channelLen) u (omega arith) v k l (ready-behind from u y k l) r
+      (borne-all (from + 4 * channelLen) top u v (omega arith) r
+      (λ k i lk li. subst (λ (a : ℕ). getD u a 0 < top) (place-behind k i) (low (k + 4) i (omega arith) li))
+      (λ k b lk n lb. subst (λ (a : ℕ). getD u a 0 ≡ 0) (place-behind k (atCounts + b)) (none (k + 4) b (omega arith) n lb))
+      e)
+
+  -- what the two lists of tallies bear out is sound
+  pub eight-by : (t v : List ℕ) → Rows ringLen 0 from u t → Rows ringLen 0 (from + 4 * channelLen) u v
+      → allBelow top (rowBorneOut u from t) ≡ true → allBelow top (rowBorneOut u (from + 4 * channelLen) v) ≡ true
+      → (k : ℕ) → k < 8 → soundChannel (chanOf (chanAt from u k)) ≡ true
+  eight-by t v rt rv et ev k l =
+      by-test (ltb k 4)
+      (λ e. front t rt et k (ltb-true k 4 e))
+      (λ e.
+      let n : 4 ≤ k = ltb-false k 4 e in
+      let d : from + channelLen * k ≡ from + 4 * channelLen + channelLen * (k - 4) = omega arith in
+      ap (λ (a : ℕ). soundChannel (chanOf (part a channelLen u))) d ∙ behind v rv ev (k - 4) (omega arith))

@@ -289,9 +289,9 @@ fn all_full(bank: &[u16], from: usize) -> bool
     true
 }
 
-// Entry i of the k-th channel.
+// Place i of the k-th channel.
 fn entry(bank: &[u16], from: usize, i: usize, k: usize) -> u16
-    requires { ⌜ (from ≤ 310000) × (k < 8) × (i < ringLen) × (from + channelLen * k + channelLen ≤ length (now bank)) ⌝ }
+    requires { ⌜ (from ≤ 310000) × (k < 8) × (i < channelLen) × (from + channelLen * k + channelLen ≤ length (now bank)) ⌝ }
     ensures { λ r. ⌜ r ≡ getD (now (bank .entry)) (from + channelLen * k + i) 0 ⌝ }
 {
     bank[from + CHANNEL_LEN * k + i]
@@ -305,14 +305,14 @@ fn higher(a: u16, b: u16) -> u16
 
 // Of the k-th channel and the next.
 fn higher_of_two(bank: &[u16], from: usize, i: usize, k: usize) -> u16
-    requires { ⌜ (from ≤ 300000) × (from + 8 * channelLen ≤ length (now bank)) × (i < ringLen) × (k < 7) ⌝ }
+    requires { ⌜ (from ≤ 300000) × (from + 8 * channelLen ≤ length (now bank)) × (i < channelLen) × (k < 7) ⌝ }
     ensures { λ r. ⌜ (getD (now (bank .entry)) (from + channelLen * k + i) 0 ≤ r) × (getD (now (bank .entry)) (from + channelLen * (k + 1) + i) 0 ≤ r) ⌝ }
 {
     higher(entry(bank, from, i, k), entry(bank, from, i, k + 1))
 }
 
 fn highest_of_row(bank: &[u16], from: usize, i: usize) -> u16
-    requires { ⌜ (from ≤ 300000) × (from + 8 * channelLen ≤ length (now bank)) × (i < ringLen) ⌝ }
+    requires { ⌜ (from ≤ 300000) × (from + 8 * channelLen ≤ length (now bank)) × (i < channelLen) ⌝ }
     ensures { λ r. ⌜ ((k : ℕ) → k < 8 → getD (now (bank .entry)) (from + channelLen * k + i) 0 ≤ r) ⌝ }
 {
     let a = higher(
@@ -326,29 +326,19 @@ fn highest_of_row(bank: &[u16], from: usize, i: usize) -> u16
     higher(a, b)
 }
 
-// No entry of the eight rings is higher. An entry of each in turn: eight loops would each have to put together what its wide steps leave.
-fn highest_entry(bank: &[u16], from: usize) -> u16
-    requires { ⌜ (from ≤ 300000) × (from + 8 * channelLen ≤ length (now bank)) ⌝ }
-    ensures { λ r. ⌜ ((k i : ℕ) → k < 8 → i < ringLen → getD (now (bank .entry)) (from + channelLen * k + i) 0 ≤ r) ⌝ }
+// Nothing at these places of the eight channels is higher. A place of each in turn: eight loops would each have to put together what its wide
+// steps leave.
+fn highest_between(bank: &[u16], from: usize, first: usize, end: usize) -> u16
+    requires { ⌜ (from ≤ 300000) × (from + 8 * channelLen ≤ length (now bank)) × (first ≤ end) × (end ≤ channelLen) ⌝ }
+    ensures { λ r. ⌜ ((k i : ℕ) → k < 8 → first ≤ i → i < end → getD (now (bank .entry)) (from + channelLen * k + i) 0 ≤ r) ⌝ }
 {
     let mut highest: u16 = 0;
-    let mut i: usize = 0;
-    while i < RING_LEN {
+    let mut i = first;
+    while i < end {
         highest = higher(highest, highest_of_row(bank, from, i));
         i += 1;
     }
     highest
-}
-
-// Whether the rings are full of bins, and all but the counts is sound.
-fn all_ready(bank: &[u16], from: usize) -> bool
-    requires { ⌜ (from ≤ 300000) × (from + 8 * channelLen ≤ length (now bank)) ⌝ }
-    ensures { λ r. ⌜ (r ≡ true → (k : ℕ) → k < 8 → Ready (chanAt from (now (bank .entry)) k)) ⌝ }
-{
-    if !all_full(bank, from) {
-        return false;
-    }
-    highest_entry(bank, from) < BINS_U16
 }
 
 // Entry i of the k-th of four channels, each of which has a tally of its own.
@@ -410,14 +400,14 @@ fn row_borne_out(bank: &[u16], from: usize, t: &[u8; TALLIES_LEN], b: usize) -> 
         & borne_out(bank, from, t, b, 3)
 }
 
-// Whether the tallies bear out every count of the four channels that begin at a place of the store.
-fn four_borne_out(bank: &[u16], from: usize, t: &[u8; TALLIES_LEN]) -> bool
-    requires { ⌜ (from ≤ 310000) × (from + 4 * channelLen ≤ length (now bank)) ⌝ }
-    ensures { λ r. ⌜ r ≡ allBelow bins (rowBorneOut (now (bank .entry)) from (now (t .entry))) ⌝ }
+// Whether the tallies bear out the counts of the first bins of the four channels that begin at a place of the store.
+fn four_borne_out(bank: &[u16], from: usize, t: &[u8; TALLIES_LEN], top: usize) -> bool
+    requires { ⌜ (from ≤ 310000) × (from + 4 * channelLen ≤ length (now bank)) × (top ≤ bins) ⌝ }
+    ensures { λ r. ⌜ r ≡ allBelow top (rowBorneOut (now (bank .entry)) from (now (t .entry))) ⌝ }
 {
     let mut all = true;
     let mut b: usize = 0;
-    while b < BINS {
+    while b < top {
         all = all & row_borne_out(bank, from, t, b);
         b += 1;
     }
@@ -440,8 +430,36 @@ fn one_by_one(bank: &[u16], from: usize) -> bool
     true
 }
 
+// Whether the counts of eight channels are right whose entries are bins below `top`: from there on they are 0, and no tally has to be looked at.
+// The tallies are two lists: a longer one is cleared at a slower pace.
+fn counts_borne_out(bank: &[u16], from: usize, top: usize) -> bool
+    requires { ⌜ (from ≤ 300000) × (from + 8 * channelLen ≤ length (now bank)) × (top ≤ bins) ⌝ }
+    requires { ⌜ ((k : ℕ) → k < 8 → Ready (chanAt from (now bank) k)) ⌝ }
+    requires { ⌜ ((k i : ℕ) → k < 8 → i < ringLen → getD (now bank) (from + channelLen * k + i) 0 < top) ⌝ }
+    ensures { λ r. ⌜ (r ≡ true → (k : ℕ) → k < 8 → soundChannel (chanOf (chanAt from (now (bank .entry)) k)) ≡ true) ⌝ }
+{
+    if highest_between(bank, from, COUNTS + top, NEXT) != 0 {
+        return false;
+    }
+    let mut t = [0u8; TALLIES_LEN];
+    let mut v = [0u8; TALLIES_LEN];
+    count_rows(&mut t, &mut v, bank, from);
+    if !four_borne_out(bank, from, &t, top) {
+        return false;
+    }
+    four_borne_out(bank, from + 4 * CHANNEL_LEN, &v, top)
+}
+
+// The first multiple of 16 above a bin: a loop of so many turns has no rest behind its wide steps.
+fn above(bin: u16) -> usize
+    requires { ⌜ bin < bins ⌝ }
+    ensures { λ r. ⌜ (bin < r) × (r ≤ bins) ⌝ }
+{
+    (bin as usize / 16 + 1) * 16
+}
+
 // Whether the eight channels that begin at a place of the store are sound. What it says of sound ones is relied on; of others it says no more
-// than that they have to be asked one by one. The tallies are two lists: a longer one is cleared at a slower pace.
+// than that they have to be asked one by one.
 pub fn eight_sound(bank: &[u16], from: usize) -> bool
     requires { ⌜ (from ≤ 300000) × (from + 8 * channelLen ≤ length (now bank)) ⌝ }
     ensures { λ r. ⌜ (r ≡ true → (k : ℕ) → k < 8 → soundChannel (chanOf (chanAt from (now (bank .entry)) k)) ≡ true) ⌝ }
@@ -449,14 +467,12 @@ pub fn eight_sound(bank: &[u16], from: usize) -> bool
     if seems_silent(bank, from) {
         return one_by_one(bank, from);
     }
-    if !all_ready(bank, from) {
+    if !all_full(bank, from) {
         return one_by_one(bank, from);
     }
-    let mut t = [0u8; TALLIES_LEN];
-    let mut v = [0u8; TALLIES_LEN];
-    count_rows(&mut t, &mut v, bank, from);
-    if !four_borne_out(bank, from, &t) {
-        return false;
+    let highest = highest_between(bank, from, 0, RING_LEN);
+    if highest >= BINS_U16 {
+        return one_by_one(bank, from);
     }
-    four_borne_out(bank, from + 4 * CHANNEL_LEN, &v)
+    counts_borne_out(bank, from, above(highest))
 }

@@ -4,17 +4,16 @@ use Prim.Native.Nat.{ℕ, _≤_, _-_}
 use native.Mathlib.Omega.{arith}
 use borrow.Author.Needs.{needs}
 use Rattle.laws.specs.Tests.{allBelow}
-use Rattle.model.specs.Layout.{bins}
 use Rattle.bank_sound.specs.Rows.{rowBorneOut}
 use Rattle.bank_sound.proofs.Checks.{all-step}
 use Rattle.bank_sound.proofs.four_borne_out.Statement.{statement}
 use Rattle.bank_sound.proofs.four_borne_out.Tie as tie
 
 abbrev Inv-loop : tie.InvT-loop
-Inv-loop bank from t all₀ b₀ all b = (b ≤ bins) × (all ≡ allBelow b (rowBorneOut bank from t))
+Inv-loop bank from t top all₀ b₀ all b = (b ≤ top) × (all ≡ allBelow b (rowBorneOut bank from t))
 
 abbrev μ-loop : tie.MeasureT-loop
-μ-loop bank from t all₀ b₀ all b = bins - b
+μ-loop bank from t top all₀ b₀ all b = top - b
 
 loop-holds : tie.Need-loop-holds Inv-loop μ-loop
 unfolding allBelow
@@ -37,7 +36,7 @@ loop-again c = let l = c .before .before in
 returns : tie.Need-returns Inv-loop μ-loop
 returns c = let l = c .before in
     let s = l .before .before in
-    let e : l .loop .b ≡ bins = omega arith in
+    let e : l .loop .b ≡ s .args .top = omega arith in
     l .loop .inv .1 ∙ ap (λ (k : ℕ). allBelow k (rowBorneOut (s .args .bank .now) (s .args .from) (s .args .t .now))) e
 
 pub four-borne-out-spec : {M : Type 1} → statement M
