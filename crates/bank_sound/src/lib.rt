@@ -431,7 +431,7 @@ fn one_by_one(bank: &[u16], from: usize) -> bool
 }
 
 // Whether the counts of eight channels are right whose entries are bins below `top`: from there on they are 0, and no tally has to be looked at.
-// The tallies are two lists: a longer one is cleared at a slower pace.
+// The tallies are two lists, one for the first four and one for the four behind them.
 fn counts_borne_out(bank: &[u16], from: usize, top: usize) -> bool
     requires { ⌜ (from ≤ 300000) × (from + 8 * channelLen ≤ length (now bank)) × (top ≤ bins) ⌝ }
     requires { ⌜ ((k : ℕ) → k < 8 → Ready (chanAt from (now bank) k)) ⌝ }
