@@ -1,5 +1,6 @@
 // A run of hops beside floor.rs's two updates of each of them, and the same hops by single calls. Whole stretches are timed, slow hops and the hop
-// that sums afresh in them on every side; what is told is the time of one hop.
+// that sums afresh in them on every side; what is told is the time of one hop. Single calls are timed once more in turn with floor.rs, hop by hop, as
+// the times were taken that their aim was set by: alone for a whole stretch, floor.rs keeps its windows in the cache.
 use crate::floor::{FloorBank, Gate};
 use crate::numbers::Feed;
 use crate::{hops, median, time, wolfcloak, LENGTHS};
@@ -50,25 +51,39 @@ impl Set {
         }
     }
 
-    fn one_by_one(&mut self, air: &Air) {
-        for from in (0..STRETCH * air.n).step_by(air.n) {
-            let its = from..from + air.n;
-            let (db, power) = (&air.db[its.clone()], &air.power[its.clone()]);
-            let marks = (&mut self.rise[its.clone()], &mut self.drop[its]);
-            assert_eq!(wolfcloak::bank_update(&mut self.u, &mut self.f, db, power, None), 0);
-            assert_eq!(wolfcloak::gate_update((&self.u, &self.f), (&mut self.g, &mut self.h), (db, power), marks), 0);
-        }
+    fn single(&mut self, air: &Air, hop: usize) {
+        let its = hop * air.n..(hop + 1) * air.n;
+        let (db, power) = (&air.db[its.clone()], &air.power[its.clone()]);
+        let marks = (&mut self.rise[its.clone()], &mut self.drop[its]);
+        assert_eq!(wolfcloak::bank_update(&mut self.u, &mut self.f, db, power, None), 0);
+        assert_eq!(wolfcloak::gate_update((&self.u, &self.f), (&mut self.g, &mut self.h), (db, power), marks), 0);
     }
+
+    fn one_by_one(&mut self, air: &Air) {
+        (0..STRETCH).for_each(|hop| self.single(air, hop));
+    }
+}
+
+fn old_single(bank: &mut FloorBank, gate: &mut Gate, air: &Air, hop: usize) -> (Vec<bool>, Vec<bool>) {
+    let its = hop * air.n..(hop + 1) * air.n;
+    let (db, power) = (&air.db[its.clone()], &air.power[its]);
+    bank.update(db, power);
+    gate.update(db, power, bank)
 }
 
 /// The last hop's marks.
 fn old_hear(bank: &mut FloorBank, gate: &mut Gate, air: &Air) -> (Vec<bool>, Vec<bool>) {
-    let mut marks = (vec![], vec![]);
-    for (db, power) in air.db.chunks(air.n).zip(air.power.chunks(air.n)) {
-        bank.update(db, power);
-        marks = gate.update(db, power, bank);
+    (0..STRETCH).fold((vec![], vec![]), |_, hop| old_single(bank, gate, air, hop))
+}
+
+/// Each hop to floor.rs and then to the set: the time of a hop by each.
+fn in_turn(bank: &mut FloorBank, gate: &mut Gate, set: &mut Set, air: &Air) -> (f64, f64) {
+    let (mut old, mut ours) = (0.0, 0.0);
+    for hop in 0..STRETCH {
+        old += time(|| old_single(bank, gate, air, hop));
+        ours += time(|| set.single(air, hop));
     }
-    marks
+    (old / STRETCH as f64, ours / STRETCH as f64)
 }
 
 /// How a set is fed, and how many times floor.rs's time is aimed at, for 32 channels and for 512.
@@ -77,8 +92,25 @@ type Way = (&'static str, fn(&mut Set, &Air), [f64; 2]);
 const WAYS: [Way; 3] = [
     ("runs of 375 hops", |set, air| set.by_runs(air, 375), [1.0; 2]),
     ("runs of 25 hops", |set, air| set.by_runs(air, 25), [1.5; 2]),
-    ("single calls", |set, air| set.one_by_one(air), [10.0, 5.0]),
+    ("single calls", |set, air| set.one_by_one(air), SINGLE),
 ];
+
+const SINGLE: [f64; 2] = [10.0, 5.0];
+
+fn row(what: &str, n: usize, ours: f64, old: f64, aims: [f64; 2]) {
+    let aim = aims[(n > 32) as usize];
+    println!("  {what:<22} {ours:9.2} µs   floor.rs {old:9.2} µs   ratio {:7.2}   (the aim is {aim:.1})", ours / old);
+}
+
+/// Single calls and floor.rs hop by hop in turn.
+fn turn_row(n: usize, rounds: usize, air: &Air) {
+    let (mut bank, mut gate) = (FloorBank::new(n), Gate::made(n, [48, 16, 96], &LENGTHS));
+    let mut set = Set::new(&bank, &gate, n);
+    let mut times: Vec<_> = (0..WARM / STRETCH + rounds).map(|_| in_turn(&mut bank, &mut gate, &mut set, air)).collect();
+    assert!(bank.to_stores().0 == set.u && gate.words() == set.g);
+    let (old, ours): (Vec<f64>, Vec<f64>) = times.drain(WARM / STRETCH..).unzip();
+    row("single calls, in turn", n, median(ours), median(old), SINGLE);
+}
 
 pub fn rows(n: usize, rounds: usize) {
     let air = Air::noise(n);
@@ -104,9 +136,9 @@ pub fn rows(n: usize, rounds: usize) {
     let (times, old) = (times.map(median), median(old_times));
     println!("both updates of a hop, n = {n}, window lengths 15, 75, 375");
     for ((what, _, aims), ours) in WAYS.into_iter().zip(times) {
-        let aim = aims[(n > 32) as usize];
-        println!("  {what:<22} {ours:9.2} µs   floor.rs {old:9.2} µs   ratio {:7.2}   (the aim is {aim:.1})", ours / old);
+        row(what, n, ours, old, aims);
     }
+    turn_row(n, rounds, &air);
     for ((what, ..), ours) in WAYS.into_iter().zip(times) {
         let segments = 1e6 / HOPS_A_SECOND / ours;
         println!("  one core keeps up with {segments:7.1} segments of {n}, {:8.0} channels, by {what}", segments * n as f64);

@@ -1,3 +1,4 @@
+pub mod Samples
 pub mod Stages
 pub mod Turns
 pub mod Looks

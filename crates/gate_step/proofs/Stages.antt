@@ -7,13 +7,15 @@ use lib.Ieee.{Float}
 use Rattle.laws.specs.Lists.{part, splice, tab}
 use Rattle.laws.proofs.Tabs.{length-tab, tab-same}
 use Rattle.model.specs.Numbers.{f0, smoothed}
-use Rattle.model.specs.Gate.{Gate, dbAfter, gateStep}
+use Rattle.model.specs.Windows.{PowerLooks}
+use Rattle.model.specs.Gate.{Gate, dbAfter, sampleOf, gateStep}
 use Rattle.model.specs.GateStores.{gateU, gateF, gateOf}
 use Rattle.model.specs.GoodGate.{GoodGate, GateReady}
 use Rattle.model.proofs.GoodGates.{n-of, started-of, smooth-of}
 use Rattle.model.proofs.FreshGates.{withStarted, smoothAfter, good-smooth}
 use Rattle.gate_step.proofs.Looks.{put-smooth, holds-u, holds-f, held-ready, held-is}
-use Rattle.gate_step.specs.Steps.{Holds, smoothStep, looksStep}
+use Rattle.gate_step.proofs.Samples.{samples-step}
+use Rattle.gate_step.specs.Steps.{Holds, with, smoothStep, looksStep}
 
 -- ---- the smoothed dB
 
@@ -47,9 +49,11 @@ module _ (u : List ℕ) (f : List Float) (r : GateReady u f) (db : List Float) (
 
 -- ---- the whole
 
-steps-are : (g : Gate) (db power : List Float) → withStarted (looksStep power (smoothStep db g)) 1 ≡ gateStep g db power
+steps-are : (g : Gate) (db samples power : List Float) → samples ≡ tab (g .n) (sampleOf power)
+    → withStarted (looksStep samples (smoothStep db g)) 1 ≡ gateStep g db power
 unfolding looksStep smoothStep gateStep
-steps-are g db power = refl
+steps-are g db samples power e =
+    ap (λ (ls : List PowerLooks). withStarted (with g ls (smoothAfter g db)) 1) (samples-step (g .n) samples power e (g .looks))
 
 module _ (u : List ℕ) (f : List Float) (r : GateReady u f) (db f₁ : List Float) (t : f₁ ≡ gateF (smoothStep db (gateOf u f))) where
   smoothed-good : GoodGate (smoothStep db (gateOf u f))
@@ -63,10 +67,11 @@ module _ (u : List ℕ) (f : List Float) (r : GateReady u f) (db f₁ : List Flo
   pub smoothed-ready : GateReady u f₁
   smoothed-ready = held-ready u f₁ (smoothStep db (gateOf u f)) smoothed-good smoothed-u t
 
-  pub step-done : (power : List Float) (u₂ : List ℕ) (f₂ : List Float) → Holds (looksStep power (gateOf u f₁)) u₂ f₂
-      → Holds (gateStep (gateOf u f) db power) (set u₂ 1 1) f₂
-  step-done power u₂ f₂ h =
+  pub step-done : (samples power : List Float) (u₂ : List ℕ) (f₂ : List Float) → samples ≡ tab (getD u 0 0) (sampleOf power)
+      → Holds (looksStep samples (gateOf u f₁)) u₂ f₂ → Holds (gateStep (gateOf u f) db power) (set u₂ 1 1) f₂
+  step-done samples power u₂ f₂ e h =
       let same : gateOf u f₁ ≡ smoothStep db (gateOf u f) = held-is u f₁ (smoothStep db (gateOf u f)) smoothed-good smoothed-u t in
-      let whole : withStarted (looksStep power (gateOf u f₁)) 1 ≡ gateStep (gateOf u f) db power =
-      ap (λ (g : Gate). withStarted (looksStep power g) 1) same ∙ steps-are (gateOf u f) db power in
+      let whole : withStarted (looksStep samples (gateOf u f₁)) 1 ≡ gateStep (gateOf u f) db power =
+      ap (λ (g : Gate). withStarted (looksStep samples g) 1) same
+      ∙ steps-are (gateOf u f) db samples power (e ∙ ap (λ (n : ℕ). tab n (sampleOf power)) (sym (n-of u f))) in
       record { u16s = ap (λ (l : List ℕ). set l 1 1) (h .u16s) ∙ ap gateU whole; floats = h .floats ∙ ap gateF whole }

@@ -7,8 +7,9 @@ use lib.Ieee.{Float}
 use Rattle.laws.specs.Lists.{tab}
 use Rattle.model.specs.Numbers.{f0}
 use Rattle.model.specs.Windows.{PowerLooks, stepLook}
-use Rattle.model.specs.Gate.{Gate, dbAfter, sampleOf}
+use Rattle.model.specs.Gate.{Gate, dbAfter}
 use Rattle.model.specs.GateStores.{gateU, gateF}
+use Rattle.windows.specs.Looks.{sampleAt}
 
 -- the gate with these
 abbrev pub with : Gate → List PowerLooks → List Float → Gate
@@ -29,7 +30,7 @@ unfoldable pub smoothStep : List Float → Gate → Gate
 smoothStep db g = with g (g .looks) (tab (g .n) (λ k. dbAfter (g .started) (getD (g .smooth) k f0) (getD db k f0)))
 
 unfoldable pub looksStep : List Float → Gate → Gate
-looksStep power g = with g (map (stepLook (g .n) (sampleOf power)) (g .looks)) (g .smooth)
+looksStep samples g = with g (map (stepLook (g .n) (sampleAt samples)) (g .looks)) (g .smooth)
 
 -- the two stores hold g
 pub record Holds (g : Gate) (u : List ℕ) (f : List Float) : Type 0 where

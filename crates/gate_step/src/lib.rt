@@ -46,12 +46,12 @@ fn smooth_db(gate_f: &mut [f64], gate: &[u16], power_db: &[f64])
     follow_db(&mut gate_f[0..n], power_db);
 }
 
-// Each length takes the hop: its windows stand one after another behind the smoothed dB.
-fn step_looks(gate: &mut [u16], gate_f: &mut [f64], power: &[f32])
-    requires { ⌜ GateReady (now gate) (now «gate_f») × (length (now power) ≡ getD (now gate) 0 0) ⌝ }
-    ensures { λ _. ⌜ Holds (looksStep (now (power .entry)) (gateOf (now (gate .entry)) (now («gate_f» .entry)))) (now (gate .exit)) (now («gate_f» .exit)) ⌝ }
+// Each length takes the hop's samples: its windows stand one after another behind the smoothed dB.
+fn step_looks(gate: &mut [u16], gate_f: &mut [f64], samples: &[f64])
+    requires { ⌜ GateReady (now gate) (now «gate_f») × (length (now samples) ≡ getD (now gate) 0 0) ⌝ }
+    ensures { λ _. ⌜ Holds (looksStep (now (samples .entry)) (gateOf (now (gate .entry)) (now («gate_f» .entry)))) (now (gate .exit)) (now («gate_f» .exit)) ⌝ }
 {
-    let n = power.len();
+    let n = samples.len();
     let lengths = laws::wide(gate[5]);
     let mut at = n;
     let mut j: usize = 0;
@@ -59,18 +59,22 @@ fn step_looks(gate: &mut [u16], gate_f: &mut [f64], power: &[f32])
         let c = cursor(gate, j);
         let m = c.m;
         let e = at + (2 * m * n + n + n);
-        let next = windows::step_look(&mut gate_f[at..e], c, power);
+        let next = windows::step_look(&mut gate_f[at..e], c, samples);
         put_cursor(gate, j, next);
         at = e;
         j += 1;
     }
 }
 
+// The powers become samples once, since every length takes the same ones.
 pub fn step(gate: &mut [u16], gate_f: &mut [f64], power_db: &[f64], power: &[f32])
     requires { ⌜ GateReady (now gate) (now «gate_f») × (length (now «power_db») ≡ getD (now gate) 0 0) × (length (now power) ≡ getD (now gate) 0 0) ⌝ }
     ensures { λ _. ⌜ Holds (gateStep (gateOf (now (gate .entry)) (now («gate_f» .entry))) (now («power_db» .entry)) (now (power .entry))) (now (gate .exit)) (now («gate_f» .exit)) ⌝ }
 {
     smooth_db(gate_f, gate, power_db);
-    step_looks(gate, gate_f, power);
+    let n = power.len();
+    let mut samples = [0.0; 512];
+    powers::start_powers(&mut samples[..n], power);
+    step_looks(gate, gate_f, &samples[..n]);
     gate[1] = 1;
 }

@@ -18,7 +18,7 @@ pub fn smooth_step(s: f64, x: f64) -> f64
     s + GATE_EMA_ALPHA * (x - s)
 }
 
-// The first hop ever: the powers themselves.
+// The powers themselves: the bank's on its first hop ever, and the samples of the gate's windows on each.
 pub fn start_powers(smooth: &mut [f64], power: &[f32])
     requires { ⌜ length (now power) ≡ length (now smooth) ⌝ }
     ensures { λ _. ⌜ now (smooth .exit) ≡ tab (length (now (smooth .entry))) (λ k. powerLinear (getD (now (power .entry)) k f0)) ⌝ }

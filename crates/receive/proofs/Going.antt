@@ -187,22 +187,37 @@ module _ (n : ℕ) (s : Stores) (r : Run) (i at : ℕ) (u : List ℕ) (f : List 
               ∙ ap (λ (l : List ℕ). take at drop ++ l) (drops-more t h later ∙ ap₂ _++_ (sym (S .drops)) (ap (λ (x : Stores). dropsBy x (callsOf later)) (sym (S .stores)))));
         }
 
-  -- the same by a width that is n, as the code works it out
-  module _ (w : ℕ) (e : w ≡ n) where
+  -- the same by widths that are n and a place for the marks that is the values' place, as the code works them out
+  module _ (w : ℕ) (e : w ≡ n) (m : ℕ) (d : m ≡ at) (v : ℕ) (o : v ≡ n) where
     abbrev hopBy : RunHop
-    hopBy = hopAt w r i at rise drop
+    hopBy = record { hold = getD (r .hold) i 0; db = part at w (r .db); power = part at w (r .power); rise = part m v rise; drop = part m v drop }
+
+    same : h ≡ hopBy
+    same = λ j.
+        record {
+          hold = getD (r .hold) i 0;
+          db = part at (sym e j) (r .db);
+          power = part at (sym e j) (r .power);
+          rise = part (sym d j) (sym o j) rise;
+          drop = part (sym d j) (sym o j) drop;
+        }
 
     pub hop-taken-by : HopFits t hopBy
-    hop-taken-by = subst (λ (x : ℕ). HopFits t (hopAt x r i at rise drop)) (sym e) hop-taken
+    hop-taken-by = subst (HopFits t) same hop-taken
+
+    same-marks : (l p : List ℕ) → splice at n l p ≡ splice m v l p
+    same-marks l p = λ j. splice (sym d j) (sym o j) l p
+
+    marks-long : (l p : List ℕ) → length l ≡ total n r → length p ≡ length (part m v l) → length p ≡ n
+    marks-long l p ll pl = pl ∙ (λ j. length (part (d j) (o j) l)) ∙ length-part at n l (within (length l) ll)
 
     pub goes-on-by : (u′ : List ℕ) (f′ : List Float) (g′ : List ℕ) (k′ : List Float) (p q : List ℕ) → Stepped t hopBy u′ f′ g′ k′ p q
-        → length p ≡ length (part at w rise) → length q ≡ length (part at w drop)
-        → Going n s r (i + 1) (at + n) u′ f′ g′ k′ (splice at w rise p) (splice at w drop q)
+        → length p ≡ length (part m v rise) → length q ≡ length (part m v drop)
+        → Going n s r (i + 1) (at + n) u′ f′ g′ k′ (splice m v rise p) (splice m v drop q)
     goes-on-by u′ f′ g′ k′ p q S p-long q-long =
-        subst (λ (x : ℕ). Going n s r (i + 1) (at + n) u′ f′ g′ k′ (splice at x rise p) (splice at x drop q)) (sym e)
-        (goes-on u′ f′ g′ k′ p q (subst (λ (x : ℕ). Stepped t (hopAt x r i at rise drop) u′ f′ g′ k′ p q) e S)
-        (p-long ∙ ap (λ (x : ℕ). length (part at x rise)) e ∙ length-part at n rise (within (length rise) (G .rises .long)))
-        (q-long ∙ ap (λ (x : ℕ). length (part at x drop)) e ∙ length-part at n drop (within (length drop) (G .drops .long))))
+        let G′ = goes-on u′ f′ g′ k′ p q (subst (λ (x : RunHop). Stepped t x u′ f′ g′ k′ p q) (sym same) S) (marks-long rise p (G .rises .long) p-long) (marks-long drop q (G .drops .long) q-long) in
+        subst (λ (x : List ℕ). Going n s r (i + 1) (at + n) u′ f′ g′ k′ x (splice m v drop q)) (same-marks rise p)
+        (subst (λ (x : List ℕ). Going n s r (i + 1) (at + n) u′ f′ g′ k′ (splice at n rise p) x) (same-marks drop q) G′)
 
 -- ---- at the end
 

@@ -28,7 +28,7 @@ fn take_hop(
     gate::take_hold(bank, bank_f, gate, gate_f, rise, drop);
 }
 
-// Hop after hop, each with its n places of the slices.
+// Hop after hop: the next n places are read, and the next n are marked.
 fn run(
     bank: &mut [u16],
     bank_f: &mut [f64],
@@ -45,9 +45,11 @@ fn run(
 {
     let n = laws::wide(gate[0]);
     let mut at: usize = 0;
+    let mut marks: usize = 0;
     let mut i: usize = 0;
     while i < hold.len() {
         let e = at + n;
+        let marked = marks + n;
         take_hop(
             bank,
             bank_f,
@@ -56,10 +58,11 @@ fn run(
             hold[i],
             &power_db[at..e],
             &power[at..e],
-            &mut rise[at..e],
-            &mut drop[at..e],
+            &mut rise[marks..marked],
+            &mut drop[marks..marked],
         );
         at = e;
+        marks = marked;
         i += 1;
     }
 }

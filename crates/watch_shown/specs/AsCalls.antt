@@ -63,7 +63,7 @@ abbrev pub smoothedBy : ℕ → List Float → List RunHop → ℕ × List Float
 smoothedBy started l [] = (started, l)
 smoothedBy started l (h ∷ hs) = smoothedBy (startedAfter (h .hold) started) (smoothAfter (h .hold) started l (h .db)) hs
 
--- "for printing hop i": with the i hops up to it
+-- for what is shown of hop i: with the i hops up to it
 abbrev pub ShownSmoothed : Type 0
 ShownSmoothed = (s : Stores) (r : Run) → refusalOn s r ≡ 0 → (i : ℕ)
     → let hs = take i (hopsIn s r) in

@@ -6,11 +6,10 @@ use lib.ListN.{length, set, length-set}
 use lib.Ieee.{Float}
 use Rattle.laws.proofs.Tabs.{length-tab, getD-tab}
 use Rattle.model.specs.Windows.{PowerLooks, ringOf, turned, pushLook, advanceLook, rebaseLook, settleAt, stepLook}
-use Rattle.model.specs.Gate.{sampleOf}
 use Rattle.model.specs.GateStores.{lookSize, lookF}
 use Rattle.cursors.specs.declared.Cursor.{Cursor}
 use Rattle.cursors.specs.Cursors.{advancedOf}
-use Rattle.windows.specs.Looks.{LookFits, looksIn, cursorIn, steppedLook}
+use Rattle.windows.specs.Looks.{LookFits, looksIn, cursorIn, sampleAt, steppedLook}
 use Rattle.model.proofs.WindowStores.{Shaped, look-long, look-back, read-shaped}
 
 pub push-shaped : (n : ℕ) (sample : ℕ → Float) (s : PowerLooks) → Shaped n s → Shaped n (pushLook n sample s)
@@ -31,14 +30,14 @@ settle-on : (z n : ℕ) (s : PowerLooks) → (z ≡ 0 → ⊥) → settleAt z n 
 settle-on zero n s h = absurd (h refl)
 settle-on (suc z) n s h = refl
 
-module _ (l : List Float) (c : Cursor) (power : List Float) where
+module _ (l : List Float) (c : Cursor) (samples : List Float) where
   abbrev n : ℕ
-  n = length power
+  n = length samples
 
   abbrev pushed : PowerLooks
-  pushed = pushLook n (sampleOf power) (looksIn l c n)
+  pushed = pushLook n (sampleAt samples) (looksIn l c n)
 
-  pub steps-on : (d : Cursor) (x : List Float) → d ≡ advancedOf c → x ≡ lookF pushed → (d .at ≡ 0 → ⊥) → (d, x) ≡ steppedLook l c power
+  pub steps-on : (d : Cursor) (x : List Float) → d ≡ advancedOf c → x ≡ lookF pushed → (d .at ≡ 0 → ⊥) → (d, x) ≡ steppedLook l c samples
   unfolding steppedLook stepLook advanceLook pushLook
   steps-on d x ed e h =
       ap₂ (λ (b : Cursor) (y : List Float). (b, y)) ed e
@@ -49,11 +48,11 @@ module _ (l : List Float) (c : Cursor) (power : List Float) where
   unfolding advanceLook pushLook
   again long =
       look-back n (advanceLook pushed)
-      (let sh = push-shaped n (sampleOf power) (looksIn l c n) (read-shaped n (c .m) (c .at) (c .filled) l long) in
+      (let sh = push-shaped n (sampleAt samples) (looksIn l c n) (read-shaped n (c .m) (c .at) (c .filled) l long) in
       record { rings-many = sh .rings-many; ring-long = sh .ring-long; recent-long = sh .recent-long; previous-long = sh .previous-long })
 
   pub steps-round : (d : Cursor) (x y : List Float) → length l ≡ lookSize n (c .m) → d ≡ advancedOf c → x ≡ lookF pushed → d .at ≡ 0
-      → y ≡ lookF (rebaseLook n (looksIn x d n)) → (d, y) ≡ steppedLook l c power
+      → y ≡ lookF (rebaseLook n (looksIn x d n)) → (d, y) ≡ steppedLook l c samples
   unfolding steppedLook stepLook advanceLook rebaseLook pushLook
   steps-round d x y long ed e h r =
       ap₂ (λ (b : Cursor) (z : List Float). (b, z)) ed
@@ -74,5 +73,5 @@ module _ (l : List Float) (c : Cursor) (power : List Float) where
         high = f .high;
         some = f .some;
         few = f .few;
-        long = ap length e ∙ look-long n pushed (push-shaped n (sampleOf power) (looksIn l c n) (read-shaped n (c .m) (c .at) (c .filled) l (f .long)));
+        long = ap length e ∙ look-long n pushed (push-shaped n (sampleAt samples) (looksIn l c n) (read-shaped n (c .m) (c .at) (c .filled) l (f .long)));
       })

@@ -2,10 +2,10 @@
 use mathlib.Core.Path.{_≡_}
 use mathlib.Core.List.{List}
 use Prim.Native.Nat.{ℕ, _≤_}
-use lib.ListN.{length}
+use lib.ListN.{length, getD}
 use lib.Ieee.{Float}
+use Rattle.model.specs.Numbers.{f0}
 use Rattle.model.specs.Windows.{PowerLooks, stepLook}
-use Rattle.model.specs.Gate.{sampleOf}
 use Rattle.model.specs.GateStores.{lookSize, lookF, lookOf}
 use Rattle.cursors.specs.declared.Cursor.{Cursor}
 
@@ -24,8 +24,12 @@ looksIn l c n = lookOf n (c .m) (c .at) (c .filled) l
 abbrev pub cursorIn : PowerLooks → Cursor
 cursorIn s = record { m = s .m; at = s .cursor; filled = s .filled }
 
+-- channel k's sample of the hop
+abbrev pub sampleAt : List Float → ℕ → Float
+sampleAt samples k = getD samples k f0
+
 -- one hop: the cursor and the part that it leaves
 unfoldable pub steppedLook : List Float → Cursor → List Float → Cursor × List Float
-steppedLook l c power =
-    let s = stepLook (length power) (sampleOf power) (looksIn l c (length power)) in
+steppedLook l c samples =
+    let s = stepLook (length samples) (sampleAt samples) (looksIn l c (length samples)) in
     (cursorIn s, lookF s)

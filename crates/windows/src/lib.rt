@@ -3,28 +3,27 @@ ghost use mathlib.Core.Path.{_≡_};
 ghost use lib.ListN.{length};
 ghost use Rattle.model.specs.Numbers.{f0};
 ghost use Rattle.model.specs.Windows.{pushLook, rebaseLook, total};
-ghost use Rattle.model.specs.Gate.{sampleOf};
 ghost use Rattle.model.specs.GateStores.{lookF};
 ghost use Rattle.cursors.specs.Cursors.{CursorFits};
-ghost use Rattle.windows.specs.Looks.{LookFits, looksIn, steppedLook};
+ghost use Rattle.windows.specs.Looks.{LookFits, looksIn, sampleAt, steppedLook};
 use cursors::Cursor;
 
 // Each channel takes its sample: previous gains (middle - old), recent gains (sample - middle), old becomes the sample.
-fn push_look(look: &mut [f64], c: Cursor, power: &[f32])
-    requires { ⌜ LookFits (now look) (length (now power)) (c .m) × CursorFits c ⌝ }
-    ensures { λ _. ⌜ now (look .exit) ≡ lookF (pushLook (length (now (power .entry))) (sampleOf (now (power .entry))) (looksIn (now (look .entry)) c (length (now (power .entry))))) ⌝ }
+fn push_look(look: &mut [f64], c: Cursor, samples: &[f64])
+    requires { ⌜ LookFits (now look) (length (now samples)) (c .m) × CursorFits c ⌝ }
+    ensures { λ _. ⌜ now (look .exit) ≡ lookF (pushLook (length (now (samples .entry))) (sampleAt (now (samples .entry))) (looksIn (now (look .entry)) c (length (now (samples .entry))))) ⌝ }
 {
     let half = c.middle();
     let middle = half.place;
     let at = c.at;
     let m = c.m;
-    let n = power.len();
+    let n = samples.len();
     let recent = 2 * m * n;
     let previous = recent + n;
     let mut k: usize = 0;
     while k < n {
         let ring = 2 * m * k;
-        let sample = powers::power_linear(power[k]);
+        let sample = samples[k];
         let old = look[ring + at];
         let mid = look[ring + middle];
         let p = look[previous + k];
@@ -71,15 +70,15 @@ fn rebase_look(look: &mut [f64], c: Cursor, n: usize)
 }
 
 // One hop of one length: all channels take their samples, the cursor advances, and the sums are taken afresh once a turn of the ring.
-pub fn step_look(look: &mut [f64], c: Cursor, power: &[f32]) -> Cursor
-    requires { ⌜ LookFits (now look) (length (now power)) (c .m) × CursorFits c ⌝ }
-    ensures { λ r. ⌜ (r, now (look .exit)) ≡ steppedLook (now (look .entry)) c (now (power .entry)) ⌝ }
+pub fn step_look(look: &mut [f64], c: Cursor, samples: &[f64]) -> Cursor
+    requires { ⌜ LookFits (now look) (length (now samples)) (c .m) × CursorFits c ⌝ }
+    ensures { λ r. ⌜ (r, now (look .exit)) ≡ steppedLook (now (look .entry)) c (now (samples .entry)) ⌝ }
 {
-    push_look(look, c, power);
+    push_look(look, c, samples);
     let next = c.advance();
     let at = next.at;
     if at == 0 {
-        rebase_look(look, next, power.len());
+        rebase_look(look, next, samples.len());
         return next;
     }
     next

@@ -15,22 +15,9 @@ count-in-requires-3 c κs = search needs
 count-in-requires-4 : tie.Need-count-in-requires-4
 count-in-requires-4 c κs = search needs
 
-count-in-requires-5 : tie.Need-count-in-requires-5
-count-in-requires-5 c κs = search needs
-
-count-in-requires-6 : tie.Need-count-in-requires-6
-count-in-requires-6 c κs = search needs
-
-count-in-requires-7 : tie.Need-count-in-requires-7
-count-in-requires-7 c κs = search needs
-
-count-in-requires-8 : tie.Need-count-in-requires-8
-count-in-requires-8 c κs = let s = c .before .before .before .before .before .before .before .before .before .before .before .before .before .before .before .before in
-    (search needs, (s .pre .1 .0, c .before .count-in7 .ensures))
-
 returns : tie.Need-returns
-returns c = let s = c .before .before .before .before .before .before .before .before .before .before .before .before .before .before .before .before .before in
-    rows-turn (s .args .i) (s .args .from) (s .args .bank .now) (c .count-in8 .last .0) (c .count-in8 .ensures)
+returns c = let s = c .before .before .before .before .before .before .before .before .before in
+    rows-turn (s .args .i) (s .args .from) (s .args .bank .now) (c .count-in4 .last .0) (c .count-in4 .ensures)
 
 pub count-row-spec : {M : Type 1} → statement M
 count-row-spec =
@@ -40,8 +27,4 @@ count-row-spec =
     count-in-requires-2
     count-in-requires-3
     count-in-requires-4
-    count-in-requires-5
-    count-in-requires-6
-    count-in-requires-7
-    count-in-requires-8
     returns)

@@ -1,15 +1,9 @@
-use Prim.Native.Nat.{ℕ, _<_}
 use native.Mathlib.Omega.{arith}
 use borrow.Author.Needs.{needs}
 use borrow.Author.Tests.{not-false}
-use Rattle.bank_sound.specs.Rows.{chanAt, Ready}
-use Rattle.bank_sound.proofs.Rows.{rows-none, borne-out-sound}
+use Rattle.bank_sound.proofs.Rows.{all-bins}
 use Rattle.bank_sound.proofs.eight_sound.Statement.{statement}
 use Rattle.bank_sound.proofs.eight_sound.Tie as tie
-
--- what the first test leaves open is the counts
-ready : (c : tie.Else2) → (k : ℕ) → k < 8 → Ready (chanAt (c .before .before .before .before .before .args .from) (c .before .before .before .before .before .args .bank .now) k)
-ready c = c .before .all-ready .ensures (not-false _ (c .if2 .left))
 
 seems-silent-requires : tie.Need-seems-silent-requires
 seems-silent-requires c κs = search needs
@@ -20,8 +14,8 @@ one-by-one-requires c κs = search needs
 returns : tie.Need-returns
 returns c = search needs
 
-all-ready-requires : tie.Need-all-ready-requires
-all-ready-requires c κs = search needs
+all-full-requires : tie.Need-all-full-requires
+all-full-requires c κs = search needs
 
 one-by-one-requires-2 : tie.Need-one-by-one-requires-2
 one-by-one-requires-2 c κs = search needs
@@ -29,17 +23,32 @@ one-by-one-requires-2 c κs = search needs
 returns-2 : tie.Need-returns-2
 returns-2 c = search needs
 
-count-rows-requires : tie.Need-count-rows-requires
-count-rows-requires c κs = let s = c .before .before .before .before .before .before in
-    (search needs, (ready (c .before), rows-none (s .args .from) (s .args .bank .now)))
+highest-between-requires : tie.Need-highest-between-requires
+highest-between-requires c κs = search needs
 
-all-borne-out-requires : tie.Need-all-borne-out-requires
-all-borne-out-requires c κs = search needs
+one-by-one-requires-3 : tie.Need-one-by-one-requires-3
+one-by-one-requires-3 c κs = search needs
 
 returns-3 : tie.Need-returns-3
-returns-3 c = let q = c .before .before in
-    let s = q .before .before .before .before .before .before .before in
-    λ e k h. borne-out-sound (s .args .from) (s .args .bank .now) (omega arith) (q .count-rows .last .0) k h (ready (q .before .before) k h) (q .count-rows .ensures) (c .all-borne-out .ensures e k h)
+returns-3 c = search needs
+
+above-requires : tie.Need-above-requires
+above-requires c κs = search needs
+
+counts-borne-out-requires : tie.Need-counts-borne-out-requires
+counts-borne-out-requires c κs = let z = c .before in
+    let w = z .before .before in
+    let s = w .before .before .before .before .before in
+    let h = z .before .highest-between in (
+      search needs,
+      (
+        all-bins (s .args .from) (s .args .bank .now) (h .result) (omega arith) (λ k i lk li. h .ensures k i lk (omega arith) li) (w .before .all-full .ensures (not-false _ (w .if2 .left))),
+        λ k i lk li. omega (arith, h .ensures k i lk (omega arith) li, c .above .ensures),
+      ),
+    )
+
+returns-4 : tie.Need-returns-4
+returns-4 c = search needs
 
 pub eight-sound-spec : {M : Type 1} → statement M
 eight-sound-spec =
@@ -48,9 +57,12 @@ eight-sound-spec =
     seems-silent-requires
     one-by-one-requires
     returns
-    all-ready-requires
+    all-full-requires
     one-by-one-requires-2
     returns-2
-    count-rows-requires
-    all-borne-out-requires
-    returns-3)
+    highest-between-requires
+    one-by-one-requires-3
+    returns-3
+    above-requires
+    counts-borne-out-requires
+    returns-4)

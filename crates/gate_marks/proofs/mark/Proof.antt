@@ -1,153 +1,51 @@
--- `gate_marks::mark` meets its contract: the first k marks are written. Assumes nothing.
-use mathlib.Core.Path.{_≡_, sym, ap, _∙_}
-use mathlib.Core.Bool.{Bool, _||_}
-use mathlib.Core.List.{List}
-use Prim.Native.Nat.{ℕ, _-_, _<_}
-use native.Mathlib.Omega.{arith}
-use lib.ListN.{length, getD}
-use lib.Ieee.{Float}
-use mir.Val.{boolByte}
-use Rattle.laws.specs.Lists.{one}
+-- `gate_marks::mark` meets its contract: what the two callees say of each channel, put together. Assumes nothing.
+use mathlib.Core.Path.{_≡_, sym, _∙_}
+use lib.ListN.{length}
 use Rattle.model.specs.Stores.{bankOf}
-use Rattle.model.specs.Gate.{earlyRise, windowRise, dropAt}
 use Rattle.model.specs.GateStores.{gateOf}
-use Rattle.laws.proofs.Counts.{flag}
-use Rattle.laws.proofs.Fills.{Filled, begins, turns, done}
-use Rattle.channel_readings.proofs.Places.{from-ready}
-use Rattle.gate_cursors.proofs.Lengths.{smooth-within}
 use Rattle.model.proofs.GoodGates.{n-of, started-of}
-use Rattle.gate_marks.proofs.Marks.{early-is, drop-is, rises-marked, drops-marked}
+use Rattle.gate_marks.proofs.Marks.{both-tested, rises-marked, drops-marked}
 use borrow.Author.Needs.{needs}
 use Rattle.gate_marks.proofs.mark.Statement.{statement}
 use Rattle.gate_marks.proofs.mark.Tie as tie
 
--- the marks of channel k
-abbrev riseOf : List ℕ → List Float → List ℕ → List Float → ℕ → ℕ
-riseOf bu bf gu gf k = one (earlyRise (gateOf gu gf) (bankOf bu bf) k || windowRise (gateOf gu gf) k)
+mark-levels-requires : tie.Need-mark-levels-requires
+mark-levels-requires c κs = search needs
 
-abbrev dropOf : List ℕ → List Float → List ℕ → List Float → ℕ → ℕ
-dropOf bu bf gu gf k = one (dropAt (gateOf gu gf) (bankOf bu bf) k)
+mark-windows-requires : tie.Need-mark-windows-requires
+mark-windows-requires c κs = search needs
 
-abbrev Inv-loop : tie.InvT-loop
-Inv-loop bank bank-f gate gate-f rise₀ drop₀ n k₀ rise drop k =
-    Filled rise₀ (riseOf bank bank-f gate gate-f) k rise × Filled drop₀ (dropOf bank bank-f gate gate-f) k drop
-
-abbrev μ-loop : tie.MeasureT-loop
-μ-loop bank bank-f gate gate-f rise₀ drop₀ n k₀ rise drop k = length rise₀ - k
-
-abbrev start : tie.At-loop Inv-loop μ-loop → tie.Start Inv-loop μ-loop
-start l = l .before .before .before .before .before .before .before
-
--- there is a channel k
-below : (c : tie.In-loop Inv-loop μ-loop) → c .before .loop .k < getD (start (c .before) .args .gate .now) 0 0
-below c = omega (arith, c .loop-test .taken, start (c .before) .pre .1)
-
-loop-holds : tie.Need-loop-holds Inv-loop μ-loop
-loop-holds c = (begins _ _, begins _ _)
-
-effective-at-requires : tie.Need-effective-at-requires Inv-loop μ-loop
-effective-at-requires c κs = let s = start (c .before) in
-    from-ready (s .args .bank .now) (s .args .bank-f .now) (c .before .loop .k) (s .pre .0 .0 .bank) (omega (arith, below c, s .pre .0 .0 .same))
-
-rise-at-requires : tie.Need-rise-at-requires Inv-loop μ-loop
-rise-at-requires c κs = let s = start (c .before .before) in
-    (s .pre .0 .0 .gate, below (c .before))
-
-cast-rise : tie.Need-cast-rise Inv-loop μ-loop
-cast-rise c = search needs
-
-slice-write-rise : tie.Need-slice-write-rise Inv-loop μ-loop
-slice-write-rise c = search needs
-
-shared-slice-read-drop-at : tie.Need-shared-slice-read-drop-at Inv-loop μ-loop
-shared-slice-read-drop-at c = search needs
-
-mul-drop-at : tie.Need-mul-drop-at Inv-loop μ-loop
-mul-drop-at c = search needs
-
-shared-slice-read-drop-at-2 : tie.Need-shared-slice-read-drop-at-2 Inv-loop μ-loop
-shared-slice-read-drop-at-2 c = let i = c .before .before .before .before in
-    let s = start (i .before) in
-    omega (arith, smooth-within (s .args .gate .now) (s .args .gate-f .now) (s .pre .0 .0 .gate), below i)
-
-drop-at-requires : tie.Need-drop-at-requires Inv-loop μ-loop
-drop-at-requires c κs = search needs
-
-cast-drop : tie.Need-cast-drop Inv-loop μ-loop
-cast-drop c = search needs
-
-slice-write-drop : tie.Need-slice-write-drop Inv-loop μ-loop
-slice-write-drop c = search needs
-
-add-k : tie.Need-add-k Inv-loop μ-loop
-add-k c = search needs
-
-loop-less : tie.Need-loop-less Inv-loop μ-loop
-loop-less c = search needs
-
-loop-again : tie.Need-loop-again Inv-loop μ-loop
-loop-again c = let r = c .before .before .before in
-    let e = r .before in
-    let i = e .before in
-    let l = i .before in
-    let s = start l in
-    let bu = s .args .bank .now in
-    let bf = s .args .bank-f .now in
-    let gu = s .args .gate .now in
-    let gf = s .args .gate-f .now in (
-      turns (s .args .rise .now) (riseOf bu bf gu gf) (l .loop .k) (l .loop .rise) (boolByte (r .rise-at .result)) (l .loop .inv .0) (omega arith)
-          (flag (r .rise-at .result)
-          ∙ ap one
-          (r .rise-at .ensures
-          ∙ ap (λ (b : Bool). b || windowRise (gateOf gu gf) (l .loop .k))
-          (early-is gu gf (bankOf bu bf) (l .loop .k) (s .pre .0 .0 .gate) (below i) (e .effective-at .result) (e .effective-at .ensures)))),
-      turns (s .args .drop .now) (dropOf bu bf gu gf) (l .loop .k) (l .loop .drop) (boolByte (c .drop-at .result)) (l .loop .inv .1) (omega arith)
-          (flag (c .drop-at .result) ∙ ap one (c .drop-at .ensures ∙ drop-is gu gf (bankOf bu bf) (l .loop .k) (s .pre .0 .0 .gate) (below i) (e .effective-at .result) (e .effective-at .ensures))),
-    )
-
-same-length : tie.Need-same-length Inv-loop μ-loop
+same-length : tie.Need-same-length
 same-length c = search needs
 
-same-length-2 : tie.Need-same-length-2 Inv-loop μ-loop
+same-length-2 : tie.Need-same-length-2
 same-length-2 c = search needs
 
-returns : tie.Need-returns Inv-loop μ-loop
-returns c = let l = c .before in
-    let s = start l in
-    let bu = s .args .bank .now in
-    let bf = s .args .bank-f .now in
+returns : tie.Need-returns
+returns c = let w = c .before .before in
+    let v = w .before .before .before .before .before .before in
+    let s = v .before .before .before .before .before .before .before .before .before in
     let gu = s .args .gate .now in
     let gf = s .args .gate-f .now in
-    let z : gateOf gu gf .started ≡ 0 → ⊥ = λ q. s .pre .1 (sym (started-of gu gf) ∙ q) in
+    let G = gateOf gu gf in
+    let B = bankOf (s .args .bank .now) (s .args .bank-f .now) in
+    let n = length (s .args .rise .now) in
+    let z : G .started ≡ 0 → ⊥ = λ q. s .pre .1 (sym (started-of gu gf) ∙ q) in
     record {
       rises =
-          rises-marked (gateOf gu gf) (bankOf bu bf) (length (s .args .rise .now)) (l .loop .rise) (s .pre .0 .1 ∙ sym (n-of gu gf)) z
-          (done (s .args .rise .now) (riseOf bu bf gu gf) (l .loop .k) (l .loop .rise) (l .loop .inv .0) (omega arith));
+          rises-marked G B n (w .mark-windows .last .1 .1 .0) (s .pre .0 .1 ∙ sym (n-of gu gf)) z
+          (both-tested G B n (v .mark-levels .last .1 .1 .1 .1 .0) (w .mark-windows .last .1 .1 .0) (v .mark-levels .ensures .0) (w .mark-windows .ensures));
       drops =
-          drops-marked (gateOf gu gf) (bankOf bu bf) (length (s .args .drop .now)) (l .loop .drop) (s .pre .0 .2 ∙ sym (n-of gu gf)) z
-          (done (s .args .drop .now) (dropOf bu bf gu gf) (l .loop .k) (l .loop .drop) (l .loop .inv .1) (omega (arith, s .pre .0 .1, s .pre .0 .2)));
+          drops-marked G B (length (s .args .drop .now)) (v .mark-levels .last .1 .1 .1 .1 .1 .0) (s .pre .0 .2 ∙ sym (n-of gu gf)) z
+          (v .mark-levels .ensures .1);
     }
 
 pub mark-spec : {M : Type 1} → statement M
 mark-spec =
     tie.close
     (tie.spec
-    Inv-loop
-    μ-loop
-    loop-holds
-    effective-at-requires
-    rise-at-requires
-    cast-rise
-    slice-write-rise
-    shared-slice-read-drop-at
-    mul-drop-at
-    shared-slice-read-drop-at-2
-    drop-at-requires
-    cast-drop
-    slice-write-drop
-    add-k
-    loop-less
-    loop-again
+    mark-levels-requires
+    mark-windows-requires
     same-length
     same-length-2
     returns)

@@ -21,11 +21,11 @@ use Rattle.gate_step.proofs.step_looks.Statement.{statement}
 use Rattle.gate_step.proofs.step_looks.Tie as tie
 
 abbrev Inv-loop : tie.InvT-loop
-Inv-loop gate₀ gate-f₀ power n lengths at₀ j₀ gate gate-f at j =
-    (j ≤ lengths) × (at ≡ startAt gate₀ j) × (gate ≡ looksU gate₀ gate-f₀ (hopOf gate₀ power) j) × (gate-f ≡ looksF gate₀ gate-f₀ (hopOf gate₀ power) j)
+Inv-loop gate₀ gate-f₀ samples n lengths at₀ j₀ gate gate-f at j =
+    (j ≤ lengths) × (at ≡ startAt gate₀ j) × (gate ≡ looksU gate₀ gate-f₀ (hopOf gate₀ samples) j) × (gate-f ≡ looksF gate₀ gate-f₀ (hopOf gate₀ samples) j)
 
 abbrev μ-loop : tie.MeasureT-loop
-μ-loop gate₀ gate-f₀ power n lengths at₀ j₀ gate gate-f at j = lengths - j
+μ-loop gate₀ gate-f₀ samples n lengths at₀ j₀ gate gate-f at j = lengths - j
 
 abbrev start : tie.At-loop Inv-loop μ-loop → tie.Start Inv-loop μ-loop
 start l = l .before .before .before .before .before .before
@@ -36,8 +36,8 @@ U l = start l .args .gate .now
 abbrev F : tie.At-loop Inv-loop μ-loop → List Float
 F l = start l .args .gate-f .now
 
-abbrev P : tie.At-loop Inv-loop μ-loop → List Float
-P l = start l .args .power .now
+abbrev S : tie.At-loop Inv-loop μ-loop → List Float
+S l = start l .args .samples .now
 
 ready : (l : tie.At-loop Inv-loop μ-loop) → GateReady (U l) (F l)
 ready l = start l .pre .0
@@ -51,12 +51,12 @@ few l = sizes (U l) (F l) (ready l) .few
 long-u : (l : tie.At-loop Inv-loop μ-loop) → length (l .loop .gate) ≡ 30
 long-u l =
     ap length (l .loop .inv .2)
-    ∙ looks-long-u (U l) (F l) (hopOf (U l) (P l)) (ready l) (hop-steady (U l) (F l) (P l) (ready l)) (l .loop .j) (omega (arith, l .loop .inv .0, lengths-are l))
+    ∙ looks-long-u (U l) (F l) (hopOf (U l) (S l)) (ready l) (hop-steady (U l) (F l) (S l) (ready l)) (l .loop .j) (omega (arith, l .loop .inv .0, lengths-are l))
 
 long-f : (l : tie.At-loop Inv-loop μ-loop) → length (l .loop .gate-f) ≡ length (F l)
 long-f l =
     ap length (l .loop .inv .3)
-    ∙ looks-long-f (U l) (F l) (hopOf (U l) (P l)) (ready l) (hop-steady (U l) (F l) (P l) (ready l)) (l .loop .j) (omega (arith, l .loop .inv .0, lengths-are l))
+    ∙ looks-long-f (U l) (F l) (hopOf (U l) (S l)) (ready l) (hop-steady (U l) (F l) (S l) (ready l)) (l .loop .j) (omega (arith, l .loop .inv .0, lengths-are l))
 
 more : (c : tie.In-loop Inv-loop μ-loop) → c .before .loop .j < getD (U (c .before)) 5 0
 more c = omega (arith, c .loop-test .taken, lengths-are (c .before))
@@ -65,7 +65,7 @@ kept : (c : tie.In-loop Inv-loop μ-loop)
     → part (startAt (U (c .before)) (c .before .loop .j)) (sizeAt (U (c .before)) (c .before .loop .j)) (c .before .loop .gate-f)
     ≡ part (startAt (U (c .before)) (c .before .loop .j)) (sizeAt (U (c .before)) (c .before .loop .j)) (F (c .before))
 kept c = let l = c .before in
-    turn-kept (U l) (F l) (P l) (ready l) (l .loop .j) (more c) (l .loop .gate) (l .loop .gate-f) (l .loop .inv .2) (l .loop .inv .3)
+    turn-kept (U l) (F l) (S l) (ready l) (l .loop .j) (more c) (l .loop .gate) (l .loop .gate-f) (l .loop .inv .2) (l .loop .inv .3)
 
 -- ---- once the cursor is read
 
@@ -79,7 +79,7 @@ at-loop c = c .before .before .before
 cursor-is : (c : tie.After-cursor Inv-loop μ-loop) → c .cursor .result ≡ cursorOf (U (at-loop c)) (at-loop c .loop .j)
 cursor-is c = let l = at-loop c in
     c .cursor .ensures
-    ∙ turn-cursor (U l) (F l) (P l) (ready l) (l .loop .j) (more (in-loop c)) (l .loop .gate) (l .loop .gate-f) (l .loop .inv .2) (l .loop .inv .3)
+    ∙ turn-cursor (U l) (F l) (S l) (ready l) (l .loop .j) (more (in-loop c)) (l .loop .gate) (l .loop .gate-f) (l .loop .inv .2) (l .loop .inv .3)
 
 m-is : (c : tie.After-cursor Inv-loop μ-loop) → c .cursor .result .m ≡ mAt (U (at-loop c)) (at-loop c .loop .j)
 m-is c = ap (λ (x : Cursor). x .m) (cursor-is c)
@@ -89,9 +89,9 @@ small c = let l = at-loop c in
     small-length (U l) (F l) (ready l) (l .loop .j) (more (in-loop c)) (c .cursor .result .m) (m-is c)
 
 within : (c : tie.After-cursor Inv-loop μ-loop)
-    → at-loop c .loop .at + (2 * c .cursor .result .m * length (P (at-loop c)) + length (P (at-loop c)) + length (P (at-loop c))) ≤ length (at-loop c .loop .gate-f)
+    → at-loop c .loop .at + (2 * c .cursor .result .m * length (S (at-loop c)) + length (S (at-loop c)) + length (S (at-loop c))) ≤ length (at-loop c .loop .gate-f)
 within c = let l = at-loop c in
-    lent-within (U l) (F l) (ready l) (l .loop .j) (more (in-loop c)) (l .loop .gate-f) (long-f l) (kept (in-loop c)) (length (P l)) (c .cursor .result .m)
+    lent-within (U l) (F l) (ready l) (l .loop .j) (more (in-loop c)) (l .loop .gate-f) (long-f l) (kept (in-loop c)) (length (S l)) (c .cursor .result .m)
     (l .loop .at) (start l .pre .1) (m-is c) (l .loop .inv .1)
 
 -- ---- once the length has had its hop
@@ -100,13 +100,13 @@ abbrev read : tie.After-step-look Inv-loop μ-loop → tie.After-cursor Inv-loop
 read q = q .before .before
 
 turn : (q : tie.After-step-look Inv-loop μ-loop)
-    → Turned (U (at-loop (read q))) (F (at-loop (read q))) (P (at-loop (read q))) (at-loop (read q) .loop .j) (at-loop (read q) .loop .gate)
+    → Turned (U (at-loop (read q))) (F (at-loop (read q))) (S (at-loop (read q))) (at-loop (read q) .loop .j) (at-loop (read q) .loop .gate)
     (at-loop (read q) .loop .gate-f) (at-loop (read q) .loop .at)
-    (at-loop (read q) .loop .at + lookSize (length (P (at-loop (read q)))) (read q .cursor .result .m) - at-loop (read q) .loop .at) (q .step-look .result)
+    (at-loop (read q) .loop .at + lookSize (length (S (at-loop (read q)))) (read q .cursor .result .m) - at-loop (read q) .loop .at) (q .step-look .result)
     (q .step-look .last .0)
 turn q = let a = read q in
     let l = at-loop a in
-    turned (U l) (F l) (P l) (ready l) (l .loop .j) (more (in-loop a)) (l .loop .gate) (l .loop .gate-f) (l .loop .inv .2) (l .loop .inv .3) (l .loop .at)
+    turned (U l) (F l) (S l) (ready l) (l .loop .j) (more (in-loop a)) (l .loop .gate) (l .loop .gate-f) (l .loop .inv .2) (l .loop .inv .3) (l .loop .at)
     (a .cursor .result) (q .step-look .result) (q .step-look .last .0) (start l .pre .1) (a .cursor .ensures) (l .loop .inv .1) (q .step-look .ensures)
 
 slice-read-wide : tie.Need-slice-read-wide Inv-loop μ-loop
@@ -117,7 +117,7 @@ wide-requires c κs = search needs
 
 loop-holds : tie.Need-loop-holds Inv-loop μ-loop
 loop-holds c = let s = c .before .before .before .before .before in
-    (search needs, s .pre .1, looks-begin-u (s .args .gate .now) (s .args .gate-f .now) (hopOf (s .args .gate .now) (s .args .power .now)), looks-begin-f (s .args .gate .now) (s .args .gate-f .now) (hopOf (s .args .gate .now) (s .args .power .now)))
+    (search needs, s .pre .1, looks-begin-u (s .args .gate .now) (s .args .gate-f .now) (hopOf (s .args .gate .now) (s .args .samples .now)), looks-begin-f (s .args .gate .now) (s .args .gate-f .now) (hopOf (s .args .gate .now) (s .args .samples .now)))
 
 cursor-requires : tie.Need-cursor-requires Inv-loop μ-loop
 cursor-requires c κs = let i = c .before in
@@ -153,7 +153,7 @@ part-step-look-end c = omega (arith, within c)
 step-look-requires : tie.Need-step-look-requires Inv-loop μ-loop
 step-look-requires c κs = let a = c .before in
     let l = at-loop a in (
-      lent-fits (U l) (F l) (ready l) (l .loop .j) (more (in-loop a)) (l .loop .gate-f) (long-f l) (kept (in-loop a)) (length (P l)) (a .cursor .result .m)
+      lent-fits (U l) (F l) (ready l) (l .loop .j) (more (in-loop a)) (l .loop .gate-f) (long-f l) (kept (in-loop a)) (length (S l)) (a .cursor .result .m)
           (l .loop .at) (start l .pre .1) (m-is a) (l .loop .inv .1),
       cursor-fits (U l) (F l) (ready l) (l .loop .j) (more (in-loop a)) (a .cursor .result) (cursor-is a),
     )
@@ -188,7 +188,7 @@ same-length-2 c = long-f (c .before)
 
 returns : tie.Need-returns Inv-loop μ-loop
 returns c = let l = c .before in
-    turns-done (U l) (F l) (P l) (ready l) (l .loop .j) (l .loop .gate) (l .loop .gate-f) (omega (arith, l .loop .inv .0, c .loop-test .left, lengths-are l))
+    turns-done (U l) (F l) (S l) (ready l) (l .loop .j) (l .loop .gate) (l .loop .gate-f) (omega (arith, l .loop .inv .0, c .loop-test .left, lengths-are l))
     (l .loop .inv .2) (l .loop .inv .3)
 
 pub step-looks-spec : {M : Type 1} → statement M

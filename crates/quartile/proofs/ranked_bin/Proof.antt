@@ -1,5 +1,5 @@
--- `quartile::ranked_bin` meets its contract. The loop's invariant: the entries below bin b were passed, fewer than the rank.
--- The measure is how many bins are left: the scan ends inside, so one is left at each turn. Assumes nothing.
+-- `quartile::ranked_bin` meets its contract. The loop's invariant: the entries below bin b were passed, fewer than the rank; it begins where
+-- whole stretches were passed. The measure is how many bins are left: the scan ends inside, so one is left at each turn. Assumes nothing.
 use mathlib.Core.Path.{_≡_, _∙_}
 use mathlib.Core.List.{List}
 use Prim.Native.Nat.{ℕ, _+_, _-_, _<_}
@@ -9,7 +9,7 @@ use Rattle.laws.specs.Lists.{occ}
 use Rattle.model.specs.Layout.{bins, atCounts}
 use Rattle.model.specs.Ring.{entries}
 use Rattle.model.specs.Stores.{chanOf}
-use Rattle.model.proofs.ChannelRank.{Scan, scan-begins, scan-inside, scan-turns, scan-finds, count-at}
+use Rattle.model.proofs.ChannelRank.{Scan, scan-inside, scan-turns, scan-finds, count-at}
 use Rattle.quartile.proofs.ranked_bin.Statement.{statement}
 use Rattle.quartile.proofs.ranked_bin.Tie as tie
 
@@ -25,18 +25,23 @@ heard s = entries (chanOf (s .args .chan .now))
 -- a turn is at a bin of the histogram
 inside : (c : tie.At-loop Inv-loop μ-loop) → c .loop .b < bins
 inside c =
-    let s = c .before .before in
+    let s = c .before .before .before in
     scan-inside (s .pre .0 .1) (c .loop .inv) (s .pre .1 .1)
 
 -- what it reads is how often the bin occurs
-reads : (c : tie.After-wide Inv-loop μ-loop) → c .wide .result ≡ occ (c .before .before .loop .b) (heard (c .before .before .before .before))
+reads : (c : tie.After-wide Inv-loop μ-loop) → c .wide .result ≡ occ (c .before .before .loop .b) (heard (c .before .before .before .before .before))
 reads c =
     let l = c .before .before in
-    let s = l .before .before in
+    let s = l .before .before .before in
     c .wide .ensures ∙ count-at (s .args .chan .now) (l .loop .b) (s .pre .0 .1) (inside l)
 
+reached-stretch-requires : tie.Need-reached-stretch-requires Inv-loop μ-loop
+reached-stretch-requires c κs = search needs
+
 loop-holds : tie.Need-loop-holds Inv-loop μ-loop
-loop-holds c = scan-begins (heard (c .before)) (c .before .args .rank) (c .before .pre .1 .0)
+loop-holds c =
+    let e = c .reached-stretch .ensures in
+    record { most = omega (arith, e .0 .0); sum = e .0 .1; short = e .1 .0 }
 
 add-wide : tie.Need-add-wide Inv-loop μ-loop
 add-wide c = omega (arith, inside c)
@@ -53,7 +58,7 @@ wide-requires c κs = search needs
 add-passed : tie.Need-add-passed Inv-loop μ-loop
 add-passed c =
     let l = c .before .before in
-    let s = l .before .before in
+    let s = l .before .before .before in
     omega (arith, l .loop .inv .short, s .pre .1 .1, s .pre .0 .1 .filled-within, c .wide .ensures, c .before .shared-slice-known2 .given (atCounts + l .loop .b))
 
 cast-result : tie.Need-cast-result Inv-loop μ-loop
@@ -82,6 +87,7 @@ ranked-bin-spec =
     (tie.spec
     Inv-loop
     μ-loop
+    reached-stretch-requires
     loop-holds
     add-wide
     mul-wide

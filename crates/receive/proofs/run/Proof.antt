@@ -11,12 +11,12 @@ use Rattle.receive.proofs.run.Statement.{statement}
 use Rattle.receive.proofs.run.Tie as tie
 
 abbrev Inv-loop : tie.InvT-loop
-Inv-loop bank₀ bank-f₀ gate₀ gate-f₀ hold power-db power rise₀ drop₀ n at₀ i₀ bank bank-f gate gate-f rise drop at i =
+Inv-loop bank₀ bank-f₀ gate₀ gate-f₀ hold power-db power rise₀ drop₀ n at₀ marks₀ i₀ bank bank-f gate gate-f rise drop at marks i =
     Going n (alone bank₀ bank-f₀ gate₀ gate-f₀) (record { hold = hold; db = power-db; power = power; rise = rise₀; drop = drop₀ }) i at bank bank-f gate gate-f rise drop
-    × (length bank ≡ length bank₀) × (length bank-f ≡ length bank-f₀) × (length gate ≡ length gate₀) × (length gate-f ≡ length gate-f₀)
+    × (length bank ≡ length bank₀) × (length bank-f ≡ length bank-f₀) × (length gate ≡ length gate₀) × (length gate-f ≡ length gate-f₀) × (marks ≡ at)
 
 abbrev μ-loop : tie.MeasureT-loop
-μ-loop bank₀ bank-f₀ gate₀ gate-f₀ hold power-db power rise₀ drop₀ n at₀ i₀ bank bank-f gate gate-f rise drop at i =
+μ-loop bank₀ bank-f₀ gate₀ gate-f₀ hold power-db power rise₀ drop₀ n at₀ marks₀ i₀ bank bank-f gate gate-f rise drop at marks i =
     length hold - i
 
 -- a turn's place in the code: the loop, and the start
@@ -53,10 +53,13 @@ wide-requires c κs = search needs
 
 loop-holds : tie.Need-loop-holds Inv-loop μ-loop
 loop-holds c = let s = c .before .before .before .before .before .before .before .before .before .before .before in
-    (begins (c .wide .result) (s .args .bank .now) (s .args .bank-f .now) (s .args .gate .now) (s .args .gate-f .now) (lent s) (c .wide .ensures) (s .pre), refl, refl, refl, refl)
+    (begins (c .wide .result) (s .args .bank .now) (s .args .bank-f .now) (s .args .gate .now) (s .args .gate-f .now) (lent s) (c .wide .ensures) (s .pre), refl, refl, refl, refl, refl)
 
 add-e : tie.Need-add-e Inv-loop μ-loop
 add-e c = omega (arith, fits c _ (lengths (c .before) .db))
+
+add-marked : tie.Need-add-marked Inv-loop μ-loop
+add-marked c = omega (arith, fits c _ (lengths (c .before) .db), c .before .loop .inv .5)
 
 shared-slice-read-take-hop : tie.Need-shared-slice-read-take-hop Inv-loop μ-loop
 shared-slice-read-take-hop c = search needs
@@ -97,7 +100,7 @@ part-take-hop-start-3 c = search needs
 
 part-take-hop-end-3 : tie.Need-part-take-hop-end-3 Inv-loop μ-loop
 part-take-hop-end-3 c = let c′ = c .before .before .before .before .before .before .before in
-    omega (arith, fits c′ _ (c′ .before .loop .inv .0 .rises .long))
+    omega (arith, fits c′ _ (c′ .before .loop .inv .0 .rises .long), c′ .before .loop .inv .5)
 
 sub-take-hop-4 : tie.Need-sub-take-hop-4 Inv-loop μ-loop
 sub-take-hop-4 c = search needs
@@ -107,11 +110,11 @@ part-take-hop-start-4 c = search needs
 
 part-take-hop-end-4 : tie.Need-part-take-hop-end-4 Inv-loop μ-loop
 part-take-hop-end-4 c = let c′ = c .before .before .before .before .before .before .before .before in
-    omega (arith, fits c′ _ (c′ .before .loop .inv .0 .drops .long))
+    omega (arith, fits c′ _ (c′ .before .loop .inv .0 .drops .long), c′ .before .loop .inv .5)
 
 take-hop-requires : tie.Need-take-hop-requires Inv-loop μ-loop
 take-hop-requires c κs = let l = c .before .before .before .before .before .before .before .before .before .before in
-    hop-taken-by (l .before .wide .result) _ (lent (start l)) (l .loop .i) (l .loop .at) (l .loop .bank) (l .loop .bank-f) (l .loop .gate) (l .loop .gate-f) (l .loop .rise) (l .loop .drop) (lengths l) (l .loop .inv .0) (more (c .before .before .before .before .before .before .before .before .before)) _ (width (l .loop .at) (l .before .wide .result))
+    hop-taken-by (l .before .wide .result) _ (lent (start l)) (l .loop .i) (l .loop .at) (l .loop .bank) (l .loop .bank-f) (l .loop .gate) (l .loop .gate-f) (l .loop .rise) (l .loop .drop) (lengths l) (l .loop .inv .0) (more (c .before .before .before .before .before .before .before .before .before)) _ (width (l .loop .at) (l .before .wide .result)) (l .loop .marks) (l .loop .inv .5) _ (width (l .loop .marks) (l .before .wide .result))
 
 add-i : tie.Need-add-i Inv-loop μ-loop
 add-i c = omega (arith, counted (c .before .before .before .before .before .before .before .before .before .before .before .before .before .before .before .before .before .before .before .before .before .before))
@@ -122,11 +125,12 @@ loop-less c = omega (arith, more (c .before .before .before .before .before .bef
 loop-again : tie.Need-loop-again Inv-loop μ-loop
 loop-again c = let t = c .before .before .before .before .before .before .before .before .before .before .before .before in
     let l = t .before .before .before .before .before .before .before .before .before .before .before in (
-      goes-on-by (l .before .wide .result) _ (lent (start l)) (l .loop .i) (l .loop .at) (l .loop .bank) (l .loop .bank-f) (l .loop .gate) (l .loop .gate-f) (l .loop .rise) (l .loop .drop) (lengths l) (l .loop .inv .0) (more (t .before .before .before .before .before .before .before .before .before .before)) _ (width (l .loop .at) (l .before .wide .result)) _ _ _ _ _ _ (t .take-hop .ensures) (t .take-hop .kept .1 .1 .1 .1 .1 .1 .1 .0) (t .take-hop .kept .1 .1 .1 .1 .1 .1 .1 .1 .0),
+      goes-on-by (l .before .wide .result) _ (lent (start l)) (l .loop .i) (l .loop .at) (l .loop .bank) (l .loop .bank-f) (l .loop .gate) (l .loop .gate-f) (l .loop .rise) (l .loop .drop) (lengths l) (l .loop .inv .0) (more (t .before .before .before .before .before .before .before .before .before .before)) _ (width (l .loop .at) (l .before .wide .result)) (l .loop .marks) (l .loop .inv .5) _ (width (l .loop .marks) (l .before .wide .result)) _ _ _ _ _ _ (t .take-hop .ensures) (t .take-hop .kept .1 .1 .1 .1 .1 .1 .1 .0) (t .take-hop .kept .1 .1 .1 .1 .1 .1 .1 .1 .0),
       t .take-hop .kept .0 ∙ l .loop .inv .1,
       t .take-hop .kept .1 .0 ∙ l .loop .inv .2,
       t .take-hop .kept .1 .1 .0 ∙ l .loop .inv .3,
       t .take-hop .kept .1 .1 .1 .0 ∙ l .loop .inv .4,
+      ap (λ (x : ℕ). x + l .before .wide .result) (l .loop .inv .5),
     )
 
 same-length : tie.Need-same-length Inv-loop μ-loop
@@ -164,6 +168,7 @@ run-spec =
     wide-requires
     loop-holds
     add-e
+    add-marked
     shared-slice-read-take-hop
     mul-take-hop
     sub-take-hop

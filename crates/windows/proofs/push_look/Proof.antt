@@ -3,15 +3,14 @@ use mathlib.Core.Path.{_≡_, refl, sym, ap, _∙_}
 use Prim.Native.Nat.{_+_, _*_, _-_, _≤_}
 use native.Mathlib.Nat.{le-antisymm}
 use native.Mathlib.Omega.{arith}
-use lib.ListN.{length, length-set}
+use lib.ListN.{length, getD, length-set}
 use lib.Ieee.{nan}
 use Rattle.laws.proofs.Lists.{row}
 use Rattle.laws.proofs.Defaults.{getD-any}
-use Rattle.model.specs.Numbers.{f0, powerLinear}
+use Rattle.model.specs.Numbers.{f0}
 use Rattle.model.specs.Windows.{PowerLooks}
 use Rattle.cursors.specs.declared.Middle.{Middle}
-use Rattle.windows.specs.Looks.{looksIn}
-use Rattle.model.specs.Gate.{sampleOf}
+use Rattle.windows.specs.Looks.{looksIn, sampleAt}
 use Rattle.model.specs.GateStores.{lookOf}
 use Rattle.model.proofs.WindowStores.{Shaped, look-forth, read-shaped}
 use Rattle.windows.proofs.Loops.{pushedTo, push-begins, push-turns, push-done}
@@ -20,28 +19,28 @@ use Rattle.windows.proofs.push_look.Statement.{statement}
 use Rattle.windows.proofs.push_look.Tie as tie
 
 abbrev Inv-loop : tie.InvT-loop
-Inv-loop look₀ power middle at m n recent previous k₀ look k =
-    (k ≤ n) × (look ≡ pushedTo (sampleOf power) (lookOf n m at 0 look₀) k) × (length look ≡ length look₀)
+Inv-loop look₀ samples middle at m n recent previous k₀ look k =
+    (k ≤ n) × (look ≡ pushedTo (sampleAt samples) (lookOf n m at 0 look₀) k) × (length look ≡ length look₀)
 
 abbrev μ-loop : tie.MeasureT-loop
-μ-loop look₀ power middle at m n recent previous k₀ look k = n - k
+μ-loop look₀ samples middle at m n recent previous k₀ look k = n - k
 
 -- the windows as they are at the start
 abbrev looks : tie.Start Inv-loop μ-loop → PowerLooks
-looks s = looksIn (s .args .look .now) (s .args .c) (length (s .args .power .now))
+looks s = looksIn (s .args .look .now) (s .args .c) (length (s .args .samples .now))
 
-shaped : (s : tie.Start Inv-loop μ-loop) → Shaped (length (s .args .power .now)) (looks s)
-shaped s = read-shaped (length (s .args .power .now)) (s .args .c .m) (s .args .c .at) (s .args .c .filled) (s .args .look .now) (s .pre .0 .long)
+shaped : (s : tie.Start Inv-loop μ-loop) → Shaped (length (s .args .samples .now)) (looks s)
+shaped s = read-shaped (length (s .args .samples .now)) (s .args .c .m) (s .args .c .at) (s .args .c .filled) (s .args .look .now) (s .pre .0 .long)
 
 -- channel k's ring is within the rings
 ring-fits : (i : tie.In-loop Inv-loop μ-loop)
     → (let l = i .before in
     let s = l .before .before .before .before in
-    2 * s .args .c .m * l .loop .k + 2 * s .args .c .m ≤ 2 * s .args .c .m * length (s .args .power .now))
+    2 * s .args .c .m * l .loop .k + 2 * s .args .c .m ≤ 2 * s .args .c .m * length (s .args .samples .now))
 ring-fits i =
     let l = i .before in
     let s = l .before .before .before .before in
-    row (2 * s .args .c .m) (l .loop .k) (length (s .args .power .now)) (i .loop-test .taken)
+    row (2 * s .args .c .m) (l .loop .k) (length (s .args .samples .now)) (i .loop-test .taken)
 
 middle-requires : tie.Need-middle-requires Inv-loop μ-loop
 middle-requires c κs = search needs
@@ -59,8 +58,8 @@ loop-holds : tie.Need-loop-holds Inv-loop μ-loop
 loop-holds c =
     let s = c .before .before .before in (
       omega arith,
-      sym (look-forth (length (s .args .power .now)) (s .args .c .m) (s .args .c .at) (s .args .c .filled) (s .args .look .now) (s .pre .0 .long))
-          ∙ push-begins (sampleOf (s .args .power .now)) (length (s .args .power .now)) (looks s) (shaped s),
+      sym (look-forth (length (s .args .samples .now)) (s .args .c .m) (s .args .c .at) (s .args .c .filled) (s .args .look .now) (s .pre .0 .long))
+          ∙ push-begins (sampleAt (s .args .samples .now)) (length (s .args .samples .now)) (looks s) (shaped s),
       refl,
     )
 
@@ -70,32 +69,29 @@ mul-ring c = search needs
 mul-ring-2 : tie.Need-mul-ring-2 Inv-loop μ-loop
 mul-ring-2 c = omega (arith, ring-fits c)
 
-mul-power-linear : tie.Need-mul-power-linear Inv-loop μ-loop
-mul-power-linear c = search needs
+mul-sample : tie.Need-mul-sample Inv-loop μ-loop
+mul-sample c = search needs
 
-shared-slice-read-power-linear : tie.Need-shared-slice-read-power-linear Inv-loop μ-loop
-shared-slice-read-power-linear c = search needs
-
-power-linear-requires : tie.Need-power-linear-requires Inv-loop μ-loop
-power-linear-requires c κs = search needs
+shared-slice-read-sample : tie.Need-shared-slice-read-sample Inv-loop μ-loop
+shared-slice-read-sample c = search needs
 
 add-old : tie.Need-add-old Inv-loop μ-loop
-add-old c = omega (arith, ring-fits (c .before .before))
+add-old c = omega (arith, ring-fits (c .before))
 
 mul-old : tie.Need-mul-old Inv-loop μ-loop
-mul-old c = omega (arith, ring-fits (c .before .before))
+mul-old c = omega (arith, ring-fits (c .before))
 
 slice-read-old : tie.Need-slice-read-old Inv-loop μ-loop
-slice-read-old c = omega (arith, ring-fits (c .before .before .before))
+slice-read-old c = omega (arith, ring-fits (c .before .before))
 
 add-mid : tie.Need-add-mid Inv-loop μ-loop
-add-mid c = omega (arith, ring-fits (c .before .before .before))
+add-mid c = omega (arith, ring-fits (c .before .before))
 
 mul-mid : tie.Need-mul-mid Inv-loop μ-loop
-mul-mid c = omega (arith, ring-fits (c .before .before .before))
+mul-mid c = omega (arith, ring-fits (c .before .before))
 
 slice-read-mid : tie.Need-slice-read-mid Inv-loop μ-loop
-slice-read-mid c = omega (arith, ring-fits (c .before .before .before .before))
+slice-read-mid c = omega (arith, ring-fits (c .before .before .before))
 
 add-p : tie.Need-add-p Inv-loop μ-loop
 add-p c = search needs
@@ -131,16 +127,16 @@ mul-look-2 : tie.Need-mul-look-2 Inv-loop μ-loop
 mul-look-2 c = search needs
 
 slice-write-look-2 : tie.Need-slice-write-look-2 Inv-loop μ-loop
-slice-write-look-2 c = simp length-set (omega (arith, ring-fits (c .before .before .before .before .before .before)))
+slice-write-look-2 c = simp length-set (omega (arith, ring-fits (c .before .before .before .before .before)))
 
 add-look-3 : tie.Need-add-look-3 Inv-loop μ-loop
-add-look-3 c = omega (arith, ring-fits (c .before .before .before .before .before .before))
+add-look-3 c = omega (arith, ring-fits (c .before .before .before .before .before))
 
 mul-look-3 : tie.Need-mul-look-3 Inv-loop μ-loop
-mul-look-3 c = omega (arith, ring-fits (c .before .before .before .before .before .before))
+mul-look-3 c = omega (arith, ring-fits (c .before .before .before .before .before))
 
 slice-write-look-3 : tie.Need-slice-write-look-3 Inv-loop μ-loop
-slice-write-look-3 c = simp length-set (omega (arith, ring-fits (c .before .before .before .before .before .before)))
+slice-write-look-3 c = simp length-set (omega (arith, ring-fits (c .before .before .before .before .before)))
 
 add-k : tie.Need-add-k Inv-loop μ-loop
 add-k c = search needs
@@ -150,17 +146,16 @@ loop-less c = search needs
 
 loop-again : tie.Need-loop-again Inv-loop μ-loop
 loop-again c =
-    let v = c .before .before .before .before in
-    let i = v .before .before in
+    let i = c .before .before .before .before .before in
     let l = i .before in
     let q = l .before in
     let s = q .before .before .before in
     let k = l .loop .k in
-    let p = s .args .power .now in (
+    let p = s .args .samples .now in (
       omega (arith, i .loop-test .taken),
-      push-turns (sampleOf p) (length p) (looks s) (shaped s) k (i .loop-test .taken) (s .pre .1 .at-below) (q .middle .result .place) (l .loop .look)
-          (v .power-linear .result) (ap (λ (r : Middle). r .place) (q .middle .ensures .0)) (q .middle .ensures .1) (l .loop .inv .1)
-          (v .power-linear .ensures ∙ ap powerLinear (getD-any p k nan f0 (i .loop-test .taken))),
+      push-turns (sampleAt p) (length p) (looks s) (shaped s) k (i .loop-test .taken) (s .pre .1 .at-below) (q .middle .result .place) (l .loop .look)
+          (getD p k nan) (ap (λ (r : Middle). r .place) (q .middle .ensures .0)) (q .middle .ensures .1) (l .loop .inv .1)
+          (getD-any p k nan f0 (i .loop-test .taken)),
       simp length-set (l .loop .inv .2),
     )
 
@@ -171,10 +166,10 @@ returns : tie.Need-returns Inv-loop μ-loop
 returns c =
     let l = c .before in
     let s = l .before .before .before .before in
-    let p = s .args .power .now in
+    let p = s .args .samples .now in
     l .loop .inv .1
-    ∙ ap (pushedTo (sampleOf p) (looks s)) (le-antisymm (l .loop .inv .0) (c .loop-test .left))
-    ∙ push-done (sampleOf p) (length p) (looks s) (shaped s)
+    ∙ ap (pushedTo (sampleAt p) (looks s)) (le-antisymm (l .loop .inv .0) (c .loop-test .left))
+    ∙ push-done (sampleAt p) (length p) (looks s) (shaped s)
 
 pub push-look-spec : {M : Type 1} → statement M
 push-look-spec =
@@ -189,9 +184,8 @@ push-look-spec =
     loop-holds
     mul-ring
     mul-ring-2
-    mul-power-linear
-    shared-slice-read-power-linear
-    power-linear-requires
+    mul-sample
+    shared-slice-read-sample
     add-old
     mul-old
     slice-read-old

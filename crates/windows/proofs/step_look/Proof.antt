@@ -15,7 +15,7 @@ rebase-look-requires c κs =
     let a = c .before .before in
     let p = a .before .before .before in
     let s = p .before .before .before .before in
-    still-fits (s .args .look .now) (s .args .c) (s .args .power .now) (a .advance .result) _ (s .pre .0) (a .advance .ensures) (p .push-look .ensures)
+    still-fits (s .args .look .now) (s .args .c) (s .args .samples .now) (a .advance .result) _ (s .pre .0) (a .advance .ensures) (p .push-look .ensures)
 
 same-length : tie.Need-same-length
 same-length c = search needs
@@ -27,7 +27,7 @@ returns c =
     let a = t .before in
     let p = a .before .before .before in
     let s = p .before .before .before .before in
-    steps-round (s .args .look .now) (s .args .c) (s .args .power .now) (a .advance .result) _ _ (s .pre .0 .long) (a .advance .ensures)
+    steps-round (s .args .look .now) (s .args .c) (s .args .samples .now) (a .advance .result) _ _ (s .pre .0 .long) (a .advance .ensures)
     (p .push-look .ensures) (t .if1 .taken) (b .rebase-look .ensures)
 
 same-length-2 : tie.Need-same-length-2
@@ -38,7 +38,7 @@ returns-2 c =
     let a = c .before in
     let p = a .before .before .before in
     let s = p .before .before .before .before in
-    steps-on (s .args .look .now) (s .args .c) (s .args .power .now) (a .advance .result) _ (a .advance .ensures) (p .push-look .ensures) (c .if1 .left)
+    steps-on (s .args .look .now) (s .args .c) (s .args .samples .now) (a .advance .result) _ (a .advance .ensures) (p .push-look .ensures) (c .if1 .left)
 
 pub step-look-spec : {M : Type 1} → statement M
 step-look-spec =
