@@ -1,6 +1,6 @@
 // A run of hops beside floor.rs's two updates of each of them, and the same hops by single calls. Whole stretches are timed, slow hops and the hop
-// that sums afresh in them on every side; what is told is the time of one hop. Single calls are timed once more in turn with floor.rs, hop by hop, as
-// the times were taken that their aim was set by: alone for a whole stretch, floor.rs keeps its windows in the cache.
+// that sums afresh in them on every side; what is told is the time of one hop. Single calls are timed once more in turn with floor.rs, hop by hop:
+// alone for a whole stretch, floor.rs keeps its windows in the cache.
 use crate::floor::{FloorBank, Gate};
 use crate::numbers::Feed;
 use crate::{hops, median, time, wolfcloak, LENGTHS};
