@@ -31,7 +31,7 @@ pub fn watch_hops(
     gate_f: &mut [f64],
 ) {
     if is_by_runs(s) {
-        watch_runs::watch_runs(fd, name, s, n, bank, bank_f, worst, worst_f, gate, gate_f);
+        watch_runs::watch_runs(fd, name, s, n, bank, bank_f, gate, gate_f);
         return;
     }
     watch_singly::watch_each(fd, name, s, n, bank, bank_f, worst, worst_f, gate, gate_f);
