@@ -24,5 +24,5 @@ enough b size h r m len x e le fits q =
     omega (arith, fits, mul-le-mul-left size few, ap (λ (y : ℕ). y * x) e, ap (λ (y : ℕ). size * y) q)
 
 -- lists of fifteen hops, as they are lent
-pub fifteen : (k x a h : ℕ) → x ≡ 15 * k → a ≡ k → h ≡ 15 → x ≡ a * h
-fifteen k x a h p q r = p ∙ mul-comm 15 k ∙ ap₂ _*_ (sym q) (sym r)
+pub fifteen : (k x a : ℕ) → x ≡ 15 * k → a ≡ k → x ≡ a * 15
+fifteen k x a p q = p ∙ mul-comm 15 k ∙ ap (λ (y : ℕ). y * 15) (sym q)

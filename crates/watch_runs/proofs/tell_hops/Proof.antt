@@ -11,21 +11,22 @@ use Rattle.watch_runs.proofs.tell_hops.Statement.{statement}
 use Rattle.watch_runs.proofs.tell_hops.Tie as tie
 
 abbrev Inv-loop : tie.InvT-loop
-Inv-loop s n started bank bank-f worst worst-f gate gate-f₀ hold db rise drop smooth₀ alive₀ alive-hops₀ events₀ rises₀ k size next₀ shown₀ on₀ at₀ i₀ gate-f smooth alive alive-hops events rises next shown on at i =
-    (at ≡ k * i) × (i ≤ length hold) × (length gate-f ≡ length gate-f₀) × (length smooth ≡ length smooth₀) × (length alive ≡ length alive₀) × (length alive-hops ≡ length alive-hops₀)
+Inv-loop s n hops started bank bank-f gate gate-f₀ hold db rise drop smooth₀ alive₀ alive-hops₀ events₀ rises₀ k size count next₀ shown₀ on₀ at₀ i₀ none none-f gate-f smooth alive alive-hops events rises next shown on at i =
+    (at ≡ k * i) × (i ≤ count) × (length gate-f ≡ length gate-f₀) × (length smooth ≡ length smooth₀) × (length alive ≡ length alive₀) × (length alive-hops ≡ length alive-hops₀)
     × (length events ≡ length events₀) × (length rises ≡ length rises₀)
 
 abbrev μ-loop : tie.MeasureT-loop
-μ-loop s n started bank bank-f worst worst-f gate gate-f₀ hold db rise drop smooth₀ alive₀ alive-hops₀ events₀ rises₀ k size next₀ shown₀ on₀ at₀ i₀ gate-f smooth alive alive-hops events rises next shown on at i =
-    length hold - i
+μ-loop s n hops started bank bank-f gate gate-f₀ hold db rise drop smooth₀ alive₀ alive-hops₀ events₀ rises₀ k size count next₀ shown₀ on₀ at₀ i₀ none none-f gate-f smooth alive alive-hops events rises next shown on at i =
+    count - i
 
 abbrev start : tie.At-loop Inv-loop μ-loop → tie.Start Inv-loop μ-loop
-start l = l .before .before .before .before .before .before .before .before .before .before .before .before .before .before .before .before .before
+start l = l .before .before .before .before .before .before .before .before .before .before .before .before .before .before .before .before
 
+-- the hop is one of those that are lent
 more : (c : tie.In-loop Inv-loop μ-loop) → c .before .loop .i < length (start (c .before) .args .hold .now)
-more c = omega arith
+more c = omega (arith, c .loop-test .taken, c .before .before .least .ensures .1)
 
--- the hop's places lie within the lists
+-- and its places lie within the lists
 fits : (c : tie.In-loop Inv-loop μ-loop) → (len : ℕ) → len ≡ length (start (c .before) .args .alive .now) * length (start (c .before) .args .hold .now)
     → c .before .loop .at + length (start (c .before) .args .alive .now) ≤ len
 fits c len e = let l = c .before in
@@ -35,19 +36,22 @@ fits c len e = let l = c .before in
 hop-bytes-requires : tie.Need-hop-bytes-requires Inv-loop μ-loop
 hop-bytes-requires c κs = search needs
 
+least-requires : tie.Need-least-requires Inv-loop μ-loop
+least-requires c κs = search needs
+
 loop-holds : tie.Need-loop-holds Inv-loop μ-loop
 loop-holds c = (sym (mul-zero _), omega arith, refl, refl, refl, refl, refl, refl)
 
 add-e : tie.Need-add-e Inv-loop μ-loop
 add-e c = let c′ = c in
-    omega (arith, fits c′ _ (start (c′ .before) .pre .0), start (c′ .before) .good .1 .1 .1 .1 .1 .1 .1 .1 .1 .1 .1 .1 .0)
+    omega (arith, fits c′ _ (start (c′ .before) .pre .0), start (c′ .before) .good .1 .1 .1 .1 .1 .1 .1 .1 .1 .1 .1 .0)
 
 shared-slice-read-smooth-hop : tie.Need-shared-slice-read-smooth-hop Inv-loop μ-loop
 shared-slice-read-smooth-hop c = more (c .before)
 
 mul-smooth-hop : tie.Need-mul-smooth-hop Inv-loop μ-loop
 mul-smooth-hop c = let c′ = c .before .before in
-    omega (arith, fits c′ _ (start (c′ .before) .pre .0), start (c′ .before) .good .1 .1 .1 .1 .1 .1 .1 .1 .1 .1 .1 .1 .0)
+    omega (arith, fits c′ _ (start (c′ .before) .pre .0), start (c′ .before) .good .1 .1 .1 .1 .1 .1 .1 .1 .1 .1 .1 .0)
 
 sub-smooth-hop : tie.Need-sub-smooth-hop Inv-loop μ-loop
 sub-smooth-hop c = omega arith
@@ -57,7 +61,7 @@ part-smooth-hop-start c = omega arith
 
 part-smooth-hop-end : tie.Need-part-smooth-hop-end Inv-loop μ-loop
 part-smooth-hop-end c = let c′ = c .before .before in
-    omega (arith, fits c′ _ (start (c′ .before) .pre .0), start (c′ .before) .good .1 .1 .1 .1 .1 .1 .1 .1 .1 .1 .1 .1 .0)
+    omega (arith, fits c′ _ (start (c′ .before) .pre .0), start (c′ .before) .good .1 .1 .1 .1 .1 .1 .1 .1 .1 .1 .1 .0)
 
 smooth-hop-requires : tie.Need-smooth-hop-requires Inv-loop μ-loop
 smooth-hop-requires c κs = search needs
@@ -71,9 +75,15 @@ shared-slice-read-started-after c = more (c .before .before .before .before .bef
 started-after-requires : tie.Need-started-after-requires Inv-loop μ-loop
 started-after-requires c κs = search needs
 
+slice-aggregate-take-hop : tie.Need-slice-aggregate-take-hop Inv-loop μ-loop
+slice-aggregate-take-hop c = search needs
+
+slice-aggregate-take-hop-2 : tie.Need-slice-aggregate-take-hop-2 Inv-loop μ-loop
+slice-aggregate-take-hop-2 c = search needs
+
 mul-take-hop : tie.Need-mul-take-hop Inv-loop μ-loop
-mul-take-hop c = let c′ = c .before .before .before .before .before .before .before .before .before .before .before .before .before .before in
-    omega (arith, fits c′ _ (start (c′ .before) .pre .0), start (c′ .before) .good .1 .1 .1 .1 .1 .1 .1 .1 .1 .1 .1 .1 .0)
+mul-take-hop c = let c′ = c .before .before .before .before .before .before .before .before .before .before .before .before .before .before .before .before in
+    omega (arith, fits c′ _ (start (c′ .before) .pre .0), start (c′ .before) .good .1 .1 .1 .1 .1 .1 .1 .1 .1 .1 .1 .0)
 
 sub-take-hop : tie.Need-sub-take-hop Inv-loop μ-loop
 sub-take-hop c = omega arith
@@ -82,8 +92,8 @@ part-take-hop-start : tie.Need-part-take-hop-start Inv-loop μ-loop
 part-take-hop-start c = omega arith
 
 part-take-hop-end : tie.Need-part-take-hop-end Inv-loop μ-loop
-part-take-hop-end c = let c′ = c .before .before .before .before .before .before .before .before .before .before .before .before .before .before in
-    omega (arith, fits c′ _ (start (c′ .before) .pre .0), start (c′ .before) .good .1 .1 .1 .1 .1 .1 .1 .1 .1 .1 .1 .1 .0)
+part-take-hop-end c = let c′ = c .before .before .before .before .before .before .before .before .before .before .before .before .before .before .before .before in
+    omega (arith, fits c′ _ (start (c′ .before) .pre .0), start (c′ .before) .good .1 .1 .1 .1 .1 .1 .1 .1 .1 .1 .1 .0)
 
 sub-take-hop-2 : tie.Need-sub-take-hop-2 Inv-loop μ-loop
 sub-take-hop-2 c = omega arith
@@ -92,8 +102,8 @@ part-take-hop-start-2 : tie.Need-part-take-hop-start-2 Inv-loop μ-loop
 part-take-hop-start-2 c = omega arith
 
 part-take-hop-end-2 : tie.Need-part-take-hop-end-2 Inv-loop μ-loop
-part-take-hop-end-2 c = let c′ = c .before .before .before .before .before .before .before .before .before .before .before .before .before .before .before in
-    omega (arith, fits c′ _ (start (c′ .before) .pre .1), start (c′ .before) .good .1 .1 .1 .1 .1 .1 .1 .1 .1 .1 .1 .1 .1 .0)
+part-take-hop-end-2 c = let c′ = c .before .before .before .before .before .before .before .before .before .before .before .before .before .before .before .before .before in
+    omega (arith, fits c′ _ (start (c′ .before) .pre .1), start (c′ .before) .good .1 .1 .1 .1 .1 .1 .1 .1 .1 .1 .1 .1 .0)
 
 sub-take-hop-3 : tie.Need-sub-take-hop-3 Inv-loop μ-loop
 sub-take-hop-3 c = omega arith
@@ -102,8 +112,8 @@ part-take-hop-start-3 : tie.Need-part-take-hop-start-3 Inv-loop μ-loop
 part-take-hop-start-3 c = omega arith
 
 part-take-hop-end-3 : tie.Need-part-take-hop-end-3 Inv-loop μ-loop
-part-take-hop-end-3 c = let c′ = c .before .before .before .before .before .before .before .before .before .before .before .before .before .before .before .before in
-    omega (arith, fits c′ _ (start (c′ .before) .pre .2), start (c′ .before) .good .1 .1 .1 .1 .1 .1 .1 .1 .1 .1 .1 .1 .1 .1 .0)
+part-take-hop-end-3 c = let c′ = c .before .before .before .before .before .before .before .before .before .before .before .before .before .before .before .before .before .before in
+    omega (arith, fits c′ _ (start (c′ .before) .pre .2), start (c′ .before) .good .1 .1 .1 .1 .1 .1 .1 .1 .1 .1 .1 .1 .1 .0)
 
 take-hop-requires : tie.Need-take-hop-requires Inv-loop μ-loop
 take-hop-requires c κs = search needs
@@ -112,18 +122,18 @@ explanation-before-requires : tie.Need-explanation-before-requires Inv-loop μ-l
 explanation-before-requires c κs = search needs
 
 add-i : tie.Need-add-i Inv-loop μ-loop
-add-i c = let c′ = c .before .before .before .before .before .before .before .before .before .before .before .before .before .before .before .before .before .before .before .before .before .before .before .before .before .before .before .before .before .before .before in
-    omega (arith, more c′, start (c′ .before) .good .1 .1 .1 .1 .1 .1 .1 .1 .1 .1 .1 .0)
+add-i c = let c′ = c .before .before .before .before .before .before .before .before .before .before .before .before .before .before .before .before .before .before .before .before .before .before .before .before .before .before .before .before .before .before .before .before .before in
+    omega (arith, more c′, start (c′ .before) .good .1 .1 .1 .1 .1 .1 .1 .1 .1 .1 .0)
 
 loop-less : tie.Need-loop-less Inv-loop μ-loop
-loop-less c = omega (arith, more (c .before .before .before .before .before .before .before .before .before .before .before .before .before .before .before .before .before .before .before .before .before .before .before .before .before .before .before .before .before .before .before))
+loop-less c = omega (arith, c .before .before .before .before .before .before .before .before .before .before .before .before .before .before .before .before .before .before .before .before .before .before .before .before .before .before .before .before .before .before .before .before .before .loop-test .taken)
 
 loop-again : tie.Need-loop-again Inv-loop μ-loop
-loop-again c = let l = c .before .before .before .before .before .before .before .before .before .before .before .before .before .before .before .before .before .before .before .before .before .before .before .before .before .before .before .before .before .before .before .before in (
+loop-again c = let l = c .before .before .before .before .before .before .before .before .before .before .before .before .before .before .before .before .before .before .before .before .before .before .before .before .before .before .before .before .before .before .before .before .before .before in (
   ap (λ (a : ℕ). a + length (start l .args .alive .now)) (l .loop .inv .0) ∙ sym (next (length (start l .args .alive .now)) (l .loop .i)),
-  omega (arith, more (c .before .before .before .before .before .before .before .before .before .before .before .before .before .before .before .before .before .before .before .before .before .before .before .before .before .before .before .before .before .before .before)),
-  c .before .before .before .before .before .before .before .before .before .before .before .before .before .before .before .before .before .before .before .before .before .gate-f .given ∙ l .loop .inv .2,
-  c .before .before .before .before .before .before .before .before .before .before .before .before .before .before .before .before .before .before .before .before .before .before .before .before .before .before .smooth .given ∙ l .loop .inv .3,
+  omega (arith, c .before .before .before .before .before .before .before .before .before .before .before .before .before .before .before .before .before .before .before .before .before .before .before .before .before .before .before .before .before .before .before .before .before .loop-test .taken),
+  c .before .before .before .before .before .before .before .before .before .before .before .before .before .before .before .before .before .before .before .before .before .before .before .gate-f .given ∙ l .loop .inv .2,
+  c .before .before .before .before .before .before .before .before .before .before .before .before .before .before .before .before .before .before .before .before .before .before .before .before .before .before .before .before .smooth .given ∙ l .loop .inv .3,
   c .before .before .before .before .before .before .before .before .alive .given ∙ l .loop .inv .4,
   c .before .before .before .before .before .before .alive-hops .given ∙ l .loop .inv .5,
   c .before .before .before .before .events .given ∙ l .loop .inv .6,
@@ -158,6 +168,7 @@ tell-hops-spec =
     Inv-loop
     μ-loop
     hop-bytes-requires
+    least-requires
     loop-holds
     add-e
     shared-slice-read-smooth-hop
@@ -169,6 +180,8 @@ tell-hops-spec =
     put-db-requires
     shared-slice-read-started-after
     started-after-requires
+    slice-aggregate-take-hop
+    slice-aggregate-take-hop-2
     mul-take-hop
     sub-take-hop
     part-take-hop-start

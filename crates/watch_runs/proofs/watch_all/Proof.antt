@@ -8,17 +8,17 @@ use Rattle.watch_runs.proofs.watch_all.Statement.{statement}
 use Rattle.watch_runs.proofs.watch_all.Tie as tie
 
 abbrev Inv-loop : tie.InvT-loop
-Inv-loop fd name s n bank₀ bank-f₀ worst₀ worst-f₀ gate₀ gate-f₀ bytes₀ hold₀ db₀ power₀ rise₀ drop₀ smooth₀ alive₀ alive-hops₀ events₀ rises₀ place₀ have₀ turns₀ bank bank-f worst worst-f gate gate-f bytes hold db power rise drop smooth alive alive-hops events rises place have turns =
-    (length bank ≡ length bank₀) × (length bank-f ≡ length bank-f₀) × (length worst ≡ length worst₀) × (length worst-f ≡ length worst-f₀) × (length gate ≡ length gate₀) × (length gate-f ≡ length gate-f₀) × (length bytes ≡ length bytes₀) × (length hold ≡ length hold₀) × (length db ≡ length db₀) × (length power ≡ length power₀) × (length rise ≡ length rise₀) × (length drop ≡ length drop₀) × (length smooth ≡ length smooth₀) × (length alive ≡ length alive₀) × (length alive-hops ≡ length alive-hops₀) × (length events ≡ length events₀) × (length rises ≡ length rises₀)
+Inv-loop fd name s n bank₀ bank-f₀ gate₀ gate-f₀ bytes₀ db₀ power₀ rise₀ drop₀ alive₀ alive-hops₀ events₀ rises₀ place₀ have₀ turns₀ none none-f bank bank-f gate gate-f bytes db power rise drop alive alive-hops events rises place have turns =
+    (length bank ≡ length bank₀) × (length bank-f ≡ length bank-f₀) × (length gate ≡ length gate₀) × (length gate-f ≡ length gate-f₀) × (length bytes ≡ length bytes₀) × (length db ≡ length db₀) × (length power ≡ length power₀) × (length rise ≡ length rise₀) × (length drop ≡ length drop₀) × (length alive ≡ length alive₀) × (length alive-hops ≡ length alive-hops₀) × (length events ≡ length events₀) × (length rises ≡ length rises₀)
 
 abbrev μ-loop : tie.MeasureT-loop
-μ-loop fd name s n bank₀ bank-f₀ worst₀ worst-f₀ gate₀ gate-f₀ bytes₀ hold₀ db₀ power₀ rise₀ drop₀ smooth₀ alive₀ alive-hops₀ events₀ rises₀ place₀ have₀ turns₀ bank bank-f worst worst-f gate gate-f bytes hold db power rise drop smooth alive alive-hops events rises place have turns = turns
+μ-loop fd name s n bank₀ bank-f₀ gate₀ gate-f₀ bytes₀ db₀ power₀ rise₀ drop₀ alive₀ alive-hops₀ events₀ rises₀ place₀ have₀ turns₀ none none-f bank bank-f gate gate-f bytes db power rise drop alive alive-hops events rises place have turns = turns
 
 first-place-requires : tie.Need-first-place-requires Inv-loop μ-loop
 first-place-requires c κs = search needs
 
 loop-holds : tie.Need-loop-holds Inv-loop μ-loop
-loop-holds c = (refl, refl, refl, refl, refl, refl, refl, refl, refl, refl, refl, refl, refl, refl, refl, refl, refl)
+loop-holds c = (refl, refl, refl, refl, refl, refl, refl, refl, refl, refl, refl, refl, refl)
 
 read-on-requires : tie.Need-read-on-requires Inv-loop μ-loop
 read-on-requires c κs = search needs
@@ -30,49 +30,50 @@ least-requires : tie.Need-least-requires Inv-loop μ-loop
 least-requires c κs = search needs
 
 sub-watch-next : tie.Need-sub-watch-next Inv-loop μ-loop
-sub-watch-next c = c .before .before .before .before .before .before .least .ensures .1
+sub-watch-next c = c .before .before .before .before .least .ensures .1
 
 part-watch-next-start : tie.Need-part-watch-next-start Inv-loop μ-loop
-part-watch-next-start c = omega (arith, c .before .before .before .before .before .before .before .least .ensures .1)
+part-watch-next-start c = omega (arith, c .before .before .before .before .before .least .ensures .1)
 
 part-watch-next-end : tie.Need-part-watch-next-end Inv-loop μ-loop
-part-watch-next-end c = omega (arith, c .before .before .before .before .before .before .before .before .before .before .before .read-on .ensures, c .before .before .before .before .before .before .before .before .before .before .bytes .given)
+part-watch-next-end c = omega (arith, c .before .before .before .before .before .before .before .before .before .read-on .ensures, c .before .before .before .before .before .before .before .before .bytes .given)
 
 watch-next-requires : tie.Need-watch-next-requires Inv-loop μ-loop
-watch-next-requires c κs = let l = c .before .before .before .before .before .before .before .before .before .before .before .before .before .before .before .before .before .before .before .before .before .before .before .before .before .before in
-    let s = c .before .before .before .before .before .before .before .before .before .before .before .before .before .before .before .before .before .before .before .before .before .before .before .before .before .before .before .before .before .before .before .before .before .before .before .before .before .before .before .before .before .before .before .before .before .before in (
-      still _ _ _ _ _ _ (l .loop .inv .8) (s .pre .0) (l .loop .inv .13) (l .loop .inv .7),
-      still _ _ _ _ _ _ (l .loop .inv .9) (s .pre .1) (l .loop .inv .13) (l .loop .inv .7),
-      still _ _ _ _ _ _ (l .loop .inv .10) (s .pre .2) (l .loop .inv .13) (l .loop .inv .7),
-      still _ _ _ _ _ _ (l .loop .inv .11) (s .pre .3) (l .loop .inv .13) (l .loop .inv .7),
-    )
+watch-next-requires c κs = (
+  still _ _ _ _ _ _ (c .before .before .before .before .before .before .before .before .before .before .before .before .before .before .before .before .before .before .before .before .before .before .loop .inv .5) (c .before .before .before .before .before .before .before .before .before .before .before .before .before .before .before .before .before .before .before .before .before .before .before .before .before .before .before .before .before .before .before .before .before .before .before .before .before .before .pre .0) (c .before .before .before .before .before .before .before .before .before .before .before .before .before .before .before .before .before .before .before .before .before .before .loop .inv .9) refl,
+  still _ _ _ _ _ _ (c .before .before .before .before .before .before .before .before .before .before .before .before .before .before .before .before .before .before .before .before .before .before .loop .inv .6) (c .before .before .before .before .before .before .before .before .before .before .before .before .before .before .before .before .before .before .before .before .before .before .before .before .before .before .before .before .before .before .before .before .before .before .before .before .before .before .pre .1) (c .before .before .before .before .before .before .before .before .before .before .before .before .before .before .before .before .before .before .before .before .before .before .loop .inv .9) refl,
+  still _ _ _ _ _ _ (c .before .before .before .before .before .before .before .before .before .before .before .before .before .before .before .before .before .before .before .before .before .before .loop .inv .7) (c .before .before .before .before .before .before .before .before .before .before .before .before .before .before .before .before .before .before .before .before .before .before .before .before .before .before .before .before .before .before .before .before .before .before .before .before .before .before .pre .2) (c .before .before .before .before .before .before .before .before .before .before .before .before .before .before .before .before .before .before .before .before .before .before .loop .inv .9) refl,
+  still _ _ _ _ _ _ (c .before .before .before .before .before .before .before .before .before .before .before .before .before .before .before .before .before .before .before .before .before .before .loop .inv .8) (c .before .before .before .before .before .before .before .before .before .before .before .before .before .before .before .before .before .before .before .before .before .before .before .before .before .before .before .before .before .before .before .before .before .before .before .before .before .before .pre .3) (c .before .before .before .before .before .before .before .before .before .before .before .before .before .before .before .before .before .before .before .before .before .before .loop .inv .9) refl,
+)
 
 sub-turns : tie.Need-sub-turns Inv-loop μ-loop
-sub-turns c = omega (arith, c .before .before .before .before .before .before .before .before .before .before .before .before .before .before .before .before .before .before .before .before .before .before .before .before .before .before .before .before .before .before .before .before .before .before .before .before .before .before .before .before .before .before .before .before .before .before .before .before .before .before .before .before .before .before .before .before .before .before .loop-test .taken)
+sub-turns c = omega (arith, c .before .before .before .before .before .before .before .before .before .before .before .before .before .before .before .before .before .before .before .before .before .before .before .before .before .before .before .before .before .before .before .before .before .before .before .before .before .before .before .before .before .before .before .before .before .before .loop-test .taken)
 
 loop-less : tie.Need-loop-less Inv-loop μ-loop
-loop-less c = omega (arith, c .before .before .before .before .before .before .before .before .before .before .before .before .before .before .before .before .before .before .before .before .before .before .before .before .before .before .before .before .before .before .before .before .before .before .before .before .before .before .before .before .before .before .before .before .before .before .before .before .before .before .before .before .before .before .before .before .before .before .loop-test .taken)
+loop-less c = omega (arith, c .before .before .before .before .before .before .before .before .before .before .before .before .before .before .before .before .before .before .before .before .before .before .before .before .before .before .before .before .before .before .before .before .before .before .before .before .before .before .before .before .before .before .before .before .before .before .loop-test .taken)
 
 loop-again : tie.Need-loop-again Inv-loop μ-loop
-loop-again c = let l = c .before .before .before .before .before .before .before .before .before .before .before .before .before .before .before .before .before .before .before .before .before .before .before .before .before .before .before .before .before .before .before .before .before .before .before .before .before .before .before .before .before .before .before .before .before .before .before .before .before .before .before .before .before .before .before .before .before .before .before in (
-  c .before .before .before .before .before .before .before .before .before .before .before .before .before .before .before .before .before .before .before .before .before .before .before .before .before .before .before .before .before .before .before .bank .given ∙ l .loop .inv .0,
-  c .before .before .before .before .before .before .before .before .before .before .before .before .before .before .before .before .before .before .before .before .before .before .before .before .before .before .before .before .before .bank-f .given ∙ l .loop .inv .1,
-  c .before .before .before .before .before .before .before .before .before .before .before .before .before .before .before .before .before .before .before .before .before .before .before .before .before .before .before .worst .given ∙ l .loop .inv .2,
-  c .before .before .before .before .before .before .before .before .before .before .before .before .before .before .before .before .before .before .before .before .before .before .before .before .before .worst-f .given ∙ l .loop .inv .3,
-  c .before .before .before .before .before .before .before .before .before .before .before .before .before .before .before .before .before .before .before .before .before .before .before .gate .given ∙ l .loop .inv .4,
-  c .before .before .before .before .before .before .before .before .before .before .before .before .before .before .before .before .before .before .before .before .before .gate-f .given ∙ l .loop .inv .5,
-  c .before .before .before .before .before .before .before .before .before .before .before .before .before .before .before .before .before .before .before .before .before .before .before .before .before .before .before .before .before .before .before .before .before .before .before .before .before .before .before .before .before .before .before .before .before .before .before .before .before .before .before .before .before .before .bytes .given ∙ l .loop .inv .6,
-  c .before .before .before .before .before .before .before .before .before .before .before .before .before .before .before .before .before .before .before .hold .given ∙ l .loop .inv .7,
-  c .before .before .before .before .before .before .before .before .before .before .before .before .before .before .before .before .before .db .given ∙ l .loop .inv .8,
-  c .before .before .before .before .before .before .before .before .before .before .before .before .before .before .before .power .given ∙ l .loop .inv .9,
-  c .before .before .before .before .before .before .before .before .before .before .before .before .before .rise .given ∙ l .loop .inv .10,
-  c .before .before .before .before .before .before .before .before .before .before .before .drop .given ∙ l .loop .inv .11,
-  c .before .before .before .before .before .before .before .before .before .smooth .given ∙ l .loop .inv .12,
-  c .before .before .before .before .before .before .before .alive .given ∙ l .loop .inv .13,
-  c .before .before .before .before .before .alive-hops .given ∙ l .loop .inv .14,
-  c .before .before .before .events .given ∙ l .loop .inv .15,
-  c .before .rises .given ∙ l .loop .inv .16,
+loop-again c = (
+  c .before .before .before .before .before .before .before .before .before .before .before .before .before .before .before .before .before .before .before .before .before .before .before .bank .given ∙ c .before .before .before .before .before .before .before .before .before .before .before .before .before .before .before .before .before .before .before .before .before .before .before .before .before .before .before .before .before .before .before .before .before .before .before .before .before .before .before .before .before .before .before .before .before .before .before .loop .inv .0,
+  c .before .before .before .before .before .before .before .before .before .before .before .before .before .before .before .before .before .before .before .before .before .bank-f .given ∙ c .before .before .before .before .before .before .before .before .before .before .before .before .before .before .before .before .before .before .before .before .before .before .before .before .before .before .before .before .before .before .before .before .before .before .before .before .before .before .before .before .before .before .before .before .before .before .before .loop .inv .1,
+  c .before .before .before .before .before .before .before .before .before .before .before .before .before .before .before .before .before .before .before .gate .given ∙ c .before .before .before .before .before .before .before .before .before .before .before .before .before .before .before .before .before .before .before .before .before .before .before .before .before .before .before .before .before .before .before .before .before .before .before .before .before .before .before .before .before .before .before .before .before .before .before .loop .inv .2,
+  c .before .before .before .before .before .before .before .before .before .before .before .before .before .before .before .before .before .gate-f .given ∙ c .before .before .before .before .before .before .before .before .before .before .before .before .before .before .before .before .before .before .before .before .before .before .before .before .before .before .before .before .before .before .before .before .before .before .before .before .before .before .before .before .before .before .before .before .before .before .before .loop .inv .3,
+  c .before .before .before .before .before .before .before .before .before .before .before .before .before .before .before .before .before .before .before .before .before .before .before .before .before .before .before .before .before .before .before .before .before .before .before .before .before .before .before .before .before .before .bytes .given ∙ c .before .before .before .before .before .before .before .before .before .before .before .before .before .before .before .before .before .before .before .before .before .before .before .before .before .before .before .before .before .before .before .before .before .before .before .before .before .before .before .before .before .before .before .before .before .before .before .loop .inv .4,
+  c .before .before .before .before .before .before .before .before .before .before .before .before .before .before .before .db .given ∙ c .before .before .before .before .before .before .before .before .before .before .before .before .before .before .before .before .before .before .before .before .before .before .before .before .before .before .before .before .before .before .before .before .before .before .before .before .before .before .before .before .before .before .before .before .before .before .before .loop .inv .5,
+  c .before .before .before .before .before .before .before .before .before .before .before .before .before .power .given ∙ c .before .before .before .before .before .before .before .before .before .before .before .before .before .before .before .before .before .before .before .before .before .before .before .before .before .before .before .before .before .before .before .before .before .before .before .before .before .before .before .before .before .before .before .before .before .before .before .loop .inv .6,
+  c .before .before .before .before .before .before .before .before .before .before .before .rise .given ∙ c .before .before .before .before .before .before .before .before .before .before .before .before .before .before .before .before .before .before .before .before .before .before .before .before .before .before .before .before .before .before .before .before .before .before .before .before .before .before .before .before .before .before .before .before .before .before .before .loop .inv .7,
+  c .before .before .before .before .before .before .before .before .before .drop .given ∙ c .before .before .before .before .before .before .before .before .before .before .before .before .before .before .before .before .before .before .before .before .before .before .before .before .before .before .before .before .before .before .before .before .before .before .before .before .before .before .before .before .before .before .before .before .before .before .before .loop .inv .8,
+  c .before .before .before .before .before .before .before .alive .given ∙ c .before .before .before .before .before .before .before .before .before .before .before .before .before .before .before .before .before .before .before .before .before .before .before .before .before .before .before .before .before .before .before .before .before .before .before .before .before .before .before .before .before .before .before .before .before .before .before .loop .inv .9,
+  c .before .before .before .before .before .alive-hops .given ∙ c .before .before .before .before .before .before .before .before .before .before .before .before .before .before .before .before .before .before .before .before .before .before .before .before .before .before .before .before .before .before .before .before .before .before .before .before .before .before .before .before .before .before .before .before .before .before .before .loop .inv .10,
+  c .before .before .before .events .given ∙ c .before .before .before .before .before .before .before .before .before .before .before .before .before .before .before .before .before .before .before .before .before .before .before .before .before .before .before .before .before .before .before .before .before .before .before .before .before .before .before .before .before .before .before .before .before .before .before .loop .inv .11,
+  c .before .rises .given ∙ c .before .before .before .before .before .before .before .before .before .before .before .before .before .before .before .before .before .before .before .before .before .before .before .before .before .before .before .before .before .before .before .before .before .before .before .before .before .before .before .before .before .before .before .before .before .before .before .loop .inv .12,
 )
+
+slice-aggregate-print-tail : tie.Need-slice-aggregate-print-tail Inv-loop μ-loop
+slice-aggregate-print-tail c = search needs
+
+slice-aggregate-print-tail-2 : tie.Need-slice-aggregate-print-tail-2 Inv-loop μ-loop
+slice-aggregate-print-tail-2 c = search needs
 
 print-tail-requires : tie.Need-print-tail-requires Inv-loop μ-loop
 print-tail-requires c κs = search needs
@@ -116,18 +117,6 @@ same-length-12 c = c .before .before .before .before .before .before .before .be
 same-length-13 : tie.Need-same-length-13 Inv-loop μ-loop
 same-length-13 c = c .before .before .before .before .before .before .before .before .before .loop .inv .12
 
-same-length-14 : tie.Need-same-length-14 Inv-loop μ-loop
-same-length-14 c = c .before .before .before .before .before .before .before .before .before .loop .inv .13
-
-same-length-15 : tie.Need-same-length-15 Inv-loop μ-loop
-same-length-15 c = c .before .before .before .before .before .before .before .before .before .loop .inv .14
-
-same-length-16 : tie.Need-same-length-16 Inv-loop μ-loop
-same-length-16 c = c .before .before .before .before .before .before .before .before .before .loop .inv .15
-
-same-length-17 : tie.Need-same-length-17 Inv-loop μ-loop
-same-length-17 c = c .before .before .before .before .before .before .before .before .before .loop .inv .16
-
 returns : tie.Need-returns Inv-loop μ-loop
 returns c = search needs
 
@@ -149,6 +138,8 @@ watch-all-spec =
     sub-turns
     loop-less
     loop-again
+    slice-aggregate-print-tail
+    slice-aggregate-print-tail-2
     print-tail-requires
     same-length
     same-length-2
@@ -163,8 +154,4 @@ watch-all-spec =
     same-length-11
     same-length-12
     same-length-13
-    same-length-14
-    same-length-15
-    same-length-16
-    same-length-17
     returns)

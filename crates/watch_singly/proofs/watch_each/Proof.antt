@@ -1,10 +1,10 @@
--- `watch_hops::watch_each` is safe and ends. Assumes nothing.
+-- `watch_singly::watch_each` is safe and ends. Assumes nothing.
 use mathlib.Core.Path.{sym}
 use native.Mathlib.Omega.{arith}
 use lib.Seq.{length-take-le}
 use borrow.Author.Needs.{needs}
-use Rattle.watch_hops.proofs.watch_each.Statement.{statement}
-use Rattle.watch_hops.proofs.watch_each.Tie as tie
+use Rattle.watch_singly.proofs.watch_each.Statement.{statement}
+use Rattle.watch_singly.proofs.watch_each.Tie as tie
 
 wide-requires : tie.Need-wide-requires
 wide-requires c κs = search needs

@@ -1,9 +1,9 @@
--- `watch_hops::watch_all` is safe and ends. Assumes nothing.
+-- `watch_singly::watch_all` is safe and ends. Assumes nothing.
 use mathlib.Core.Path.{_≡_, _∙_}
 use lib.ListN.{length}
 use borrow.Author.Needs.{needs}
-use Rattle.watch_hops.proofs.watch_all.Statement.{statement}
-use Rattle.watch_hops.proofs.watch_all.Tie as tie
+use Rattle.watch_singly.proofs.watch_all.Statement.{statement}
+use Rattle.watch_singly.proofs.watch_all.Tie as tie
 
 abbrev Inv-loop : tie.InvT-loop
 Inv-loop fd name s n bank₀ bank-f₀ worst₀ worst-f₀ gate₀ gate-f₀ bits₀ powers₀ db₀ power₀ rise₀ drop₀ alive₀ alive-hops₀ events₀ rises₀ place₀ turns₀ bank bank-f worst worst-f gate gate-f bits powers db power rise drop alive alive-hops events rises place turns =
