@@ -1,7 +1,7 @@
--- `watch_hops::is_by_runs` meets its contract. Assumes nothing.
+-- `watch_program::hops::is_by_runs` meets its contract. Assumes nothing.
 use borrow.Author.Tests.{ne-eqb}
-use Rattle.watch_hops.proofs.is_by_runs.Statement.{statement}
-use Rattle.watch_hops.proofs.is_by_runs.Tie as tie
+use Rattle.watch_program.proofs.hops.is_by_runs.Statement.{statement}
+use Rattle.watch_program.proofs.hops.is_by_runs.Tie as tie
 
 returns : tie.Need-returns
 returns c = simp (c .if1 .taken)
