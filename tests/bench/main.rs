@@ -52,9 +52,10 @@ fn sum(words: &[u16]) -> u32 {
     words.iter().fold(0, |s, &w| s.wrapping_add(w as u32))
 }
 
+/// Hops that come round: as many as 15 does not divide, so that each of them is a slow hop in its turn and a ring of noise is noise.
 fn hops(n: usize, feed: Feed) -> Vec<(Vec<f64>, Vec<f32>)> {
     let mut rng = Rng(1);
-    (0..150).map(|hop| (0..n).map(|k| sample(&mut rng, feed, hop, k)).unzip()).collect()
+    (0..151).map(|hop| (0..n).map(|k| sample(&mut rng, feed, hop, k)).unzip()).collect()
 }
 
 fn row(what: &str, ours: f64, old: f64) {
@@ -120,28 +121,42 @@ fn silence_rows(n: usize, rounds: usize) {
     println!("  {:<22} {tests:9.2} µs", "soundness, silence");
 }
 
-/// The soundness test while noise comes in after digital silence: rings of one bin, of one bin but for five entries, half of it, and of
-/// noise alone. A set in a quiet hut must not be the slow one.
-fn mixed_rows(n: usize, rounds: usize) {
-    let (quiet, noisy) = (hops(n, Feed::Silence), hops(n, Feed::Noise));
+/// A fresh bank.
+fn fresh(n: usize) -> (Vec<u16>, Vec<f64>) {
     let (mut u, mut f) = FloorBank::new(n).to_stores();
     assert_eq!(wolfcloak::bank_new(&mut u, &mut f, n), 0);
-    for hop in 0..SETTLING {
-        let (db, power) = &quiet[hop % quiet.len()];
-        assert_eq!(wolfcloak::bank_update(&mut u, &mut f, db, power, None), 0);
+    (u, f)
+}
+
+fn feed(bank: &mut (Vec<u16>, Vec<f64>), hops: &[(Vec<f64>, Vec<f32>)], which: std::ops::Range<usize>) {
+    for hop in which {
+        let (db, power) = &hops[hop % hops.len()];
+        assert_eq!(wolfcloak::bank_update(&mut bank.0, &mut bank.1, db, power, None), 0);
     }
+}
+
+fn test(bank: &(Vec<u16>, Vec<f64>), rounds: usize) -> f64 {
+    let mut value = 0.0;
+    median((0..rounds).map(|_| time(|| wolfcloak::channel_floor_db(&bank.0, &bank.1, 0, &mut value))).collect())
+}
+
+/// The soundness test while noise comes in after digital silence: rings of one bin, of one bin but for five entries, half of it, and of
+/// noise alone; and of noise that has filled half of each ring so far. A set in a quiet hut must not be the slow one.
+fn mixed_rows(n: usize, rounds: usize) {
+    let (quiet, noisy) = (hops(n, Feed::Silence), hops(n, Feed::Noise));
+    let mut bank = fresh(n);
+    feed(&mut bank, &quiet, 0..SETTLING);
     let mut hop = 0;
     let tests = [0, 5, RING_LEN / 2, RING_LEN].map(|entries| {
-        while hop < entries * DECIMATION_HOPS {
-            let (db, power) = &noisy[hop % noisy.len()];
-            assert_eq!(wolfcloak::bank_update(&mut u, &mut f, db, power, None), 0);
-            hop += 1;
-        }
-        let mut value = 0.0;
-        median((0..rounds).map(|_| time(|| wolfcloak::channel_floor_db(&u, &f, 0, &mut value))).collect())
+        feed(&mut bank, &noisy, hop..entries * DECIMATION_HOPS);
+        hop = entries * DECIMATION_HOPS;
+        test(&bank, rounds)
     });
+    let mut filling = fresh(n);
+    feed(&mut filling, &noisy, 0..RING_LEN / 2 * DECIMATION_HOPS);
+    let filling = test(&filling, rounds);
     println!("soundness after silence, n = {n}");
-    for (what, test) in ["silence", "five entries noise", "half noise", "noise"].iter().zip(tests) {
+    for (what, test) in ["silence", "five entries noise", "half noise", "noise", "noise, half full"].iter().zip(tests.into_iter().chain([filling])) {
         println!("  {what:<22} {test:9.2} µs   times noise {:7.2}", test / tests[3]);
     }
 }

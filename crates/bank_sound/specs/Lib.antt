@@ -1,3 +1,2 @@
 pub mod Fails
 pub mod Tallies
-pub mod Rows

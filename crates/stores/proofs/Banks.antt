@@ -7,12 +7,12 @@ use native.Mathlib.Omega.{arith}
 use lib.Dec.{eqb, ltb, leb}
 use lib.ListN.{length, getD}
 use lib.Ieee.{Float}
-use borrow.Author.Tests.{lt-ltb, le-ltb, ltb-true, ltb-false}
+use borrow.Author.Tests.{lt-ltb, le-ltb, ltb-false}
 use Rattle.laws.specs.Lists.{part, tab}
-use Rattle.laws.specs.Tests.{allBelow, within, differ, first}
+use Rattle.laws.specs.Tests.{within, differ, first}
 use Rattle.laws.proofs.Lists.{getD-part}
 use Rattle.laws.proofs.Tabs.{getD-tab}
-use Rattle.laws.proofs.Tests.{by-test, all-at, all-true, and-false-l, and-false-r, and-true, passed, stands, goes-on}
+use Rattle.laws.proofs.Tests.{and-false-l, and-false-r, and-true, passed, stands, goes-on}
 use Rattle.model.specs.Ring.{ChannelFloor}
 use Rattle.model.specs.Bank.{blocks, freshChannel}
 use Rattle.model.specs.Stores.{bankLen, bankFLen, bankOf, chanOf, chanPart, soundChannel, soundBank}
@@ -20,17 +20,6 @@ use Rattle.model.specs.Refusals.{bankRefusal}
 use Rattle.store_sizes.specs.Checks.{sizeRefusal}
 use Rattle.stores.specs.Checks.{soundHead, soundSeeds, soundChannels, soundStore}
 use Rattle.bank_sound.proofs.Checks.{all-same}
-
--- eight numbers more
-pub all-eight : (p : ℕ → Bool) (k : ℕ) → allBelow k p ≡ true → ((j : ℕ) → j < 8 → p (k + j) ≡ true) → allBelow (k + 8) p ≡ true
-all-eight p k h g =
-    all-true p (k + 8)
-    (λ i l.
-    by-test (ltb i k) (λ e. all-at p k i h (ltb-true i k e))
-    (λ e.
-    let w : k ≤ i = ltb-false i k e in
-    let d : i ≡ k + (i - k) = omega arith in
-    ap p d ∙ g (i - k) (omega arith)))
 
 -- ---- the store
 

@@ -1,14 +1,15 @@
 // The program `watch`: which channels of a recording or a log are alive. `watch --help` says how it is used.
+mod hops;
 mod stores_of;
 
 use libc::STDERR_FILENO;
 use libc::STDIN_FILENO;
 use watch_words::Settings;
 
-// The words of the command line, one after another.
-fn read_words(lengths: &mut [u16; 8]) -> Settings {
+// The words of the command line from one on and up to another, one after another.
+fn read_words(first: usize, end: usize, lengths: &mut [u16; 8]) -> Settings {
     let mut s = watch_words::default_settings();
-    for i in 1..os::arg_count() {
+    for i in first..end {
         s = read_word(s, i, lengths);
     }
     watch_words::taken(s)
@@ -41,8 +42,13 @@ fn watch_file(s: Settings, lengths: &[u16; 8]) {
 }
 
 pub fn run() {
+    run_words(1, os::arg_count());
+}
+
+// As if these words were all of the command line. The kept runs stand one after another on one.
+pub fn run_words(first: usize, end: usize) {
     let mut lengths = watch_words::default_lengths();
-    let s = read_words(&mut lengths);
+    let s = read_words(first, end, &mut lengths);
     if s.is_help {
         watch_help::print_help();
         return;

@@ -1,4 +1,5 @@
 // The stores that a recording or a log needs, on the stack, and their parts.
+use crate::hops::watch_hops;
 use laws::wide;
 use model::layout::BLOCK_CHANNELS;
 use model::layout::BLOCK_REST;
@@ -199,5 +200,5 @@ fn watch_with(
         return;
     }
     head::print_head(name, s, lengths, n);
-    watch_hops::watch_hops(fd, name, s, n, bank, bank_f, worst, worst_f, gate, gate_f);
+    watch_hops(fd, name, s, n, bank, bank_f, worst, worst_f, gate, gate_f);
 }

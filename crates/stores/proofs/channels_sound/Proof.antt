@@ -7,7 +7,7 @@ use borrow.Author.Needs.{needs}
 use Rattle.laws.specs.Lists.{part}
 use Rattle.laws.specs.Tests.{allBelow}
 use Rattle.laws.proofs.Lists.{width, length-part}
-use Rattle.laws.proofs.Tests.{all-more, all-fails, all-done}
+use Rattle.laws.proofs.Tests.{all-true, all-more, all-fails, all-done}
 use Rattle.model.specs.Layout.{channelLen}
 use Rattle.model.specs.Stores.{base, chanOf, soundChannel}
 use Rattle.stores.specs.Checks.{isSound, soundChannels}
@@ -34,11 +34,18 @@ answer c = let l = c .before .before .before in
 base-requires : tie.Need-base-requires Inv-loop μ-loop
 base-requires c κs = search needs
 
-sound-eights-requires : tie.Need-sound-eights-requires Inv-loop μ-loop
-sound-eights-requires c κs = search needs
+sound-sixteens-requires : tie.Need-sound-sixteens-requires Inv-loop μ-loop
+sound-sixteens-requires c κs = search needs
 
 loop-holds : tie.Need-loop-holds Inv-loop μ-loop
-loop-holds c = search needs
+loop-holds c = let s = c .before .before .before in
+    let u = s .args .bank .now in
+    let n = s .args .n in
+    let e = c .sound-sixteens .ensures in (
+      e .0,
+      all-true (isSound u n) (c .sound-sixteens .result)
+          (λ k h. ap (λ (b : ℕ). soundChannel (chanOf (part (b + channelLen * k) channelLen u))) (sym (c .before .base .ensures .0)) ∙ e .1 k h),
+    )
 
 mul-a : tie.Need-mul-a Inv-loop μ-loop
 mul-a c = search needs
@@ -99,7 +106,7 @@ channels-sound-spec =
     Inv-loop
     μ-loop
     base-requires
-    sound-eights-requires
+    sound-sixteens-requires
     loop-holds
     mul-a
     add-a

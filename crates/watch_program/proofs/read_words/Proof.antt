@@ -4,16 +4,13 @@ use Rattle.watch_program.proofs.read_words.Statement.{statement}
 use Rattle.watch_program.proofs.read_words.Tie as tie
 
 abbrev Inv-loop : tie.InvT-loop
-Inv-loop lengths₀ s₀ i₀ i-end lengths s i = Unit {0}
+Inv-loop first end lengths₀ s₀ i₀ lengths s i = Unit {0}
 
 abbrev μ-loop : tie.MeasureT-loop
-μ-loop lengths₀ s₀ i₀ i-end lengths s i = i-end - i
+μ-loop first end lengths₀ s₀ i₀ lengths s i = end - i
 
 default-settings-requires : tie.Need-default-settings-requires Inv-loop μ-loop
 default-settings-requires c κs = search needs
-
-arg-count-requires : tie.Need-arg-count-requires Inv-loop μ-loop
-arg-count-requires c κs = search needs
 
 loop-holds : tie.Need-loop-holds Inv-loop μ-loop
 loop-holds c = search needs
@@ -43,7 +40,6 @@ read-words-spec =
     Inv-loop
     μ-loop
     default-settings-requires
-    arg-count-requires
     loop-holds
     read-word-requires
     add-i
