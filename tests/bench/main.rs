@@ -62,17 +62,21 @@ fn row(what: &str, ours: f64, old: f64) {
     println!("  {what:<22} {ours:9.2} µs   floor.rs {old:9.2} µs   ratio {:7.2}", ours / old);
 }
 
+/// Hops of the bank, once its rings are full.
 fn bank_rows(n: usize, rounds: usize) {
     let hops = hops(n, Feed::Noise);
     let mut oracle = FloorBank::new(n);
     let (mut u, mut f) = oracle.to_stores();
     assert_eq!(wolfcloak::bank_new(&mut u, &mut f, n), 0);
     let [mut ordinary, mut slow, mut old_ordinary, mut old_slow, mut sums, mut tests, mut explained]: [Vec<f64>; 7] = Default::default();
-    for hop in 0..rounds * DECIMATION_HOPS {
+    for hop in 0..(RING_LEN + rounds) * DECIMATION_HOPS {
         let (db, power) = &hops[hop % hops.len()];
         let is_slow = hop % DECIMATION_HOPS == 0;
         let ours = time(|| wolfcloak::bank_update(&mut u, &mut f, db, power, None));
         let old = time(|| oracle.update(db, power));
+        if hop < SETTLING {
+            continue;
+        }
         if is_slow { &mut slow } else { &mut ordinary }.push(ours);
         if is_slow { &mut old_slow } else { &mut old_ordinary }.push(old);
         if hop % 5 == 1 {
@@ -163,9 +167,9 @@ fn mixed_rows(n: usize, rounds: usize) {
 
 const LENGTHS: [u16; 3] = [15, 75, 375];
 
-/// As a receiver runs them: each hop a bank update and then a gate update; holds beside it. The longest windows are summed afresh
-/// every 750 hops. Floors are at rest but after slow hops; at every fifth hop all of them are moved first, by an eighth of a dB up or
-/// down, so that no remembered threshold serves.
+/// As a receiver runs them: each hop a bank update and then a gate update; holds beside it. Rings and windows are full before anything is
+/// timed. The longest windows are summed afresh every 750 hops. Floors are at rest but after slow hops; at every fifth hop all of them are
+/// moved first, by an eighth of a dB up or down, so that no remembered threshold serves.
 fn gate_rows(n: usize, rounds: usize) {
     let hops = hops(n, Feed::Noise);
     let (mut bank, mut gate) = (FloorBank::new(n), Gate::made(n, [48, 16, 96], &LENGTHS));
@@ -175,7 +179,7 @@ fn gate_rows(n: usize, rounds: usize) {
     let [mut holds, mut old_holds, mut moved_holds, mut old_moved_holds]: [Vec<f64>; 4] = Default::default();
     let [mut both, mut old_both, mut tests]: [Vec<f64>; 3] = Default::default();
     let move_floors = |f: &mut [f64], by: f64| f[3 * n..4 * n].iter_mut().for_each(|x| *x += by);
-    for hop in 0..rounds * 750 {
+    for hop in 0..SETTLING + rounds * 750 {
         let (db, power) = &hops[hop % hops.len()];
         let first = time(|| wolfcloak::bank_update(&mut u, &mut f, db, power, None));
         let old_first = time(|| bank.update(db, power));
@@ -189,6 +193,9 @@ fn gate_rows(n: usize, rounds: usize) {
         let mut marks = (vec![], vec![]);
         let old_second = time(|| marks = gate.update(db, power, &bank));
         assert!(marks.0.iter().zip(&rise).all(|(&m, &byte)| m as u8 == byte));
+        if hop < SETTLING {
+            continue;
+        }
         let is_afresh = hop % 750 == 749;
         let (ours, old) = match (is_afresh, is_moved, hop % 15 == 0) {
             (true, ..) => (&mut afresh, &mut old_afresh),
