@@ -229,7 +229,7 @@ uint16_t wolfcloak_ema_rise(uint16_t role, const uint16_t *bank, size_t bank_len
  * hops by single calls, which refuse the garbled one alone, or leave that hop out and hand in the run again. A run of no hops makes the
  * same checks, changes nothing and answers 0.
  *
- * When to use which: nearly all of a single call's time is the test of the stores, and a run makes it once for all its hops. Feed runs
+ * When to use which: most of a single call's time is the test of the stores, and a run makes it once for all its hops. Feed runs
  * where hops can be collected first: from a recording, or from a buffer of 25 hops or more, whose first hop's marks then come 1/15 of a
  * second late. Feed single calls where every hop's marks are wanted at once.
  *

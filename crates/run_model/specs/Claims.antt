@@ -52,13 +52,24 @@ NoHops = (s : Stores) (db power : List Float) (rise drop : List ℕ)
     → let r : Run = record { hold = []; db = db; power = power; rise = rise; drop = drop } in
     receivedOn s r ≡ (refusalOn s r, s .bu, s .bf, s .gu, s .gf, rise, drop)
 
--- "a run is the list of its hops' calls": what a run on s asks of demand 3's lists. One that is stopped or refused asks nothing
-abbrev pub runCalls : ℕ → Stores → Run → List Call
-runCalls role s r = cond (may receive role && eqb (refusalOn s r) 0) (callsOn s r) []
+-- a run on s is stopped for lack of a right, refused, or heard
+abbrev pub isHeard : ℕ → Stores → Run → Bool
+isHeard role s r = may receive role && eqb (refusalOn s r) 0
 
--- wolfcloak_receive: from the equation that is its contract, what demand 3's lists leave. x, u, f, g, k, rise and drop are the answer and what
--- the lent slices hold at exit. So demand 3 covers runs, with no new claim
+-- "a run is the list of its hops' calls": what it asks of demand 3's lists. One that is not heard asks nothing
+abbrev pub runCalls : ℕ → Stores → Run → List Call
+runCalls role s r = cond (isHeard role s r) (callsOn s r) []
+
+-- what a run on s answers and leaves: the stores by demand 3's list, the marks those of its calls, or what was there before
+pub record AsList (s : Stores) (role : ℕ) (r : Run) (x : ℕ) (u : List ℕ) (f : List Float) (g : List ℕ) (k : List Float) (rise drop : List ℕ) : Type 0 where
+  pub answer : x ≡ cond (may receive role) (refusalOn s r) 16
+  pub stores : with-run s u f g k ≡ leftBy s (runCalls role s r)
+  pub rises : rise ≡ cond (isHeard role s r) (risesBy s (callsOn s r)) (r .rise)
+  pub drops : drop ≡ cond (isHeard role s r) (dropsBy s (callsOn s r)) (r .drop)
+
+-- wolfcloak_receive: from the equation that is its contract. x, u, f, g, k, rise and drop are the answer and what the lent slices hold at exit. So
+-- demand 3 covers runs, with no new claim
 abbrev pub ReceiveDoes : Type 0
 ReceiveDoes = (s : Stores) (role : ℕ) (r : Run) (x : ℕ) (u : List ℕ) (f : List Float) (g : List ℕ) (k : List Float) (rise drop : List ℕ)
     → (x, u, f, g, k, rise, drop) ≡ asRole receive role (λ y. (y, s .bu, s .bf, s .gu, s .gf, r .rise, r .drop)) (receivedOn s r)
-    → with-run s u f g k ≡ leftBy s (runCalls role s r)
+    → AsList s role r x u f g k rise drop
