@@ -1,6 +1,6 @@
 -- What a run of hops can be relied on for, proved. Assumes nothing.
 use mathlib.Core.Path.{_≡_, refl, sym, ap, subst, _∙_}
-use mathlib.Core.Bool.{Bool, true, false, cond, _&&_, _||_}
+use mathlib.Core.Bool.{Bool, true, false, cond, _||_}
 use mathlib.Core.List.{List, [], _∷_}
 use Prim.Native.Nat.{ℕ, zero, suc, _+_, _*_}
 use native.Mathlib.Nat.{zero-mul}
@@ -12,10 +12,10 @@ use borrow.Author.Tests.{eqb-true}
 use Rattle.laws.specs.Tests.{differ, first}
 use Rattle.laws.proofs.Tests.{by-test, neither, passed, same-of, or-l, or-r, clash}
 use Rattle.model.specs.GateCalls.{pairRefusal}
-use Rattle.model.specs.Demand3.{Stores, leftBy, answers}
+use Rattle.model.specs.Demand3.{Stores, leftBy}
 use Rattle.roles.specs.Rights.{receive, may, asRole}
-use Rattle.run_model.specs.Runs.{Run, RunHop, hopsOf, hopsFrom, callsOf, risesBy, dropsBy, garbledRun, notLong, runRefusal, Received, alone, runLeaves, received}
-use Rattle.run_model.specs.Claims.{refusalOn, receivedOn, callsOn, with-run, AsCalls, AcceptedRun, RefusedExactly, NoHops, isHeard, AsList, ReceiveDoes}
+use Rattle.run_model.specs.Runs.{Run, hopsOf, hopsFrom, risesBy, dropsBy, garbledRun, notLong, runRefusal, Received, alone, runLeaves, received}
+use Rattle.run_model.specs.Claims.{refusalOn, receivedOn, callsOn, with-run, AcceptedRun, RefusedExactly, NoHops, isHeard, AsList, ReceiveDoes}
 use Rattle.run_model.proofs.Taken.{fit-of}
 use Rattle.run_model.proofs.Beside.{run-over, run-rises, run-drops}
 use Rattle.run_model.proofs.Runs.{AllLong, hops-long, none-refused, refused-exactly}
@@ -52,7 +52,7 @@ passes s r e =
     record { pair = a .0; long = b .0; clear = c .0 }
 
 -- as many hops as holds
-hops-many : (n : ℕ) (hold : List ℕ) (db power : List Float) (rise drop : List ℕ) → length (hopsFrom n hold db power rise drop) ≡ length hold
+pub hops-many : (n : ℕ) (hold : List ℕ) (db power : List Float) (rise drop : List ℕ) → length (hopsFrom n hold db power rise drop) ≡ length hold
 hops-many n [] db power rise drop = refl
 hops-many n (x ∷ xs) db power rise drop = ap suc (hops-many n xs _ _ _ _)
 
