@@ -122,9 +122,9 @@ heard s r role m e =
     let h : isHeard role s r ≡ true = rw (m, e) refl in
     record {
       answer = a .accepted ∙ sym (rw (m, e) refl);
-      stores = a .stores ∙ ap (λ (b : Bool). leftBy s (cond b (callsOn s r) [])) (sym h);
-      rises = a .rises ∙ ap (λ (b : Bool). cond b (risesBy s (callsOn s r)) (r .rise)) (sym h);
-      drops = a .drops ∙ ap (λ (b : Bool). cond b (dropsBy s (callsOn s r)) (r .drop)) (sym h);
+      stores = rw h (a .stores);
+      rises = rw h (a .rises);
+      drops = rw h (a .drops);
     }
 
 -- one that is not leaves what was there
@@ -133,9 +133,9 @@ unheard : (s : Stores) (r : Run) (role x : ℕ) → isHeard role s r ≡ false �
 unheard s r role x h e =
     record {
       answer = e;
-      stores = ap (λ (b : Bool). leftBy s (cond b (callsOn s r) [])) (sym h);
-      rises = ap (λ (b : Bool). cond b (risesBy s (callsOn s r)) (r .rise)) (sym h);
-      drops = ap (λ (b : Bool). cond b (dropsBy s (callsOn s r)) (r .drop)) (sym h);
+      stores = rw h refl;
+      rises = rw h refl;
+      drops = rw h refl;
     }
 
 refused-leaves : (x : ℕ) (s : Stores) (r : Run) → eqb x 0 ≡ false
