@@ -83,12 +83,13 @@ fn in_turn(bank: &mut FloorBank, gate: &mut Gate, set: &mut Set, air: &Air) -> (
 }
 
 /// How a set is fed: how many hops at a time, and these, from one of them on. And how many times floor.rs's time is aimed at, for 32 channels and
-/// for 512.
+/// for 512; runs of one hop have the aim of single calls, in whose place they can stand.
 type Way = (&'static str, usize, fn(&mut Set, &Air, usize), [f64; 2]);
 
-const WAYS: [Way; 3] = [
+const WAYS: [Way; 4] = [
     ("runs of 375 hops", 375, |set, air, from| set.run(air, from, 375), [1.0; 2]),
     ("runs of 25 hops", 25, |set, air, from| set.run(air, from, 25), [1.5; 2]),
+    ("runs of one hop", 1, |set, air, from| set.run(air, from, 1), SINGLE),
     ("single calls", 1, Set::single, SINGLE),
 ];
 
