@@ -229,9 +229,10 @@ uint16_t wolfcloak_ema_rise(uint16_t role, const uint16_t *bank, size_t bank_len
  * hops by single calls, which refuse the garbled one alone, or leave that hop out and hand in the run again. A run of no hops makes the
  * same checks, changes nothing and answers 0.
  *
- * When to use which: nearly all of a single call's time is the test of the stores, and a run makes it once for all its hops. Feed runs
- * where hops can be collected first: from a recording, or from a buffer of 25 hops or more, whose first hop's marks then come 1/15 of a
- * second late. Feed single calls where every hop's marks are wanted at once.
+ * When to use which: most of a single call's time is the test of the stores, and the two single calls of a hop test the bank twice; a run tests
+ * each store once for all its hops. Feed runs of many hops where hops can be collected first: from a recording, or from a buffer of 25 hops or
+ * more, whose first hop's marks then come 1/15 of a second late. Where every hop's marks are wanted at once, feed runs of one hop, or single calls.
+ * Single calls are for what a run does not do: a bank without a gate, linear power alone, and what follows here.
  *
  * A run carries neither the store of the worst floor of late nor a map of registers, both below. A set that uses one of them is fed by
  * single calls: hops of a run would be missing in it.

@@ -30,7 +30,7 @@ mod registers;
 mod wolfcloak;
 
 use floor::{FloorBank, Gate};
-use layout::{DECIMATION_HOPS, RING_LEN, SETTLING};
+use layout::{place, CHANNEL_LEN, COUNTS, DECIMATION_HOPS, FILLED, NEXT, RING_LEN, SETTLING};
 use numbers::{sample, Feed, Rng};
 use std::hint::black_box;
 use std::time::Instant;
@@ -62,17 +62,21 @@ fn row(what: &str, ours: f64, old: f64) {
     println!("  {what:<22} {ours:9.2} µs   floor.rs {old:9.2} µs   ratio {:7.2}", ours / old);
 }
 
+/// Hops of the bank, once its rings are full.
 fn bank_rows(n: usize, rounds: usize) {
     let hops = hops(n, Feed::Noise);
     let mut oracle = FloorBank::new(n);
     let (mut u, mut f) = oracle.to_stores();
     assert_eq!(wolfcloak::bank_new(&mut u, &mut f, n), 0);
     let [mut ordinary, mut slow, mut old_ordinary, mut old_slow, mut sums, mut tests, mut explained]: [Vec<f64>; 7] = Default::default();
-    for hop in 0..rounds * DECIMATION_HOPS {
+    for hop in 0..(RING_LEN + rounds) * DECIMATION_HOPS {
         let (db, power) = &hops[hop % hops.len()];
         let is_slow = hop % DECIMATION_HOPS == 0;
         let ours = time(|| wolfcloak::bank_update(&mut u, &mut f, db, power, None));
         let old = time(|| oracle.update(db, power));
+        if hop < SETTLING {
+            continue;
+        }
         if is_slow { &mut slow } else { &mut ordinary }.push(ours);
         if is_slow { &mut old_slow } else { &mut old_ordinary }.push(old);
         if hop % 5 == 1 {
@@ -137,11 +141,13 @@ fn feed(bank: &mut (Vec<u16>, Vec<f64>), hops: &[(Vec<f64>, Vec<f32>)], which: s
 
 fn test(bank: &(Vec<u16>, Vec<f64>), rounds: usize) -> f64 {
     let mut value = 0.0;
+    assert_eq!(wolfcloak::channel_floor_db(&bank.0, &bank.1, 0, &mut value), 0);
     median((0..rounds).map(|_| time(|| wolfcloak::channel_floor_db(&bank.0, &bank.1, 0, &mut value))).collect())
 }
 
 /// The soundness test while noise comes in after digital silence: rings of one bin, of one bin but for five entries, half of it, and of
-/// noise alone; and of noise that has filled half of each ring so far. A set in a quiet hut must not be the slow one.
+/// noise alone; and of noise that has filled half of each ring so far. Then full rings, some of silence and the others of noise; and rings of
+/// different fill, which no list of updates makes and a lent store may have. A set in a quiet hut must not be the slow one.
 fn mixed_rows(n: usize, rounds: usize) {
     let (quiet, noisy) = (hops(n, Feed::Silence), hops(n, Feed::Noise));
     let mut bank = fresh(n);
@@ -152,20 +158,53 @@ fn mixed_rows(n: usize, rounds: usize) {
         hop = entries * DECIMATION_HOPS;
         test(&bank, rounds)
     });
-    let mut filling = fresh(n);
-    feed(&mut filling, &noisy, 0..RING_LEN / 2 * DECIMATION_HOPS);
-    let filling = test(&filling, rounds);
+    let heard = |hops: &[(Vec<f64>, Vec<f32>)], count: usize| {
+        let mut bank = fresh(n);
+        feed(&mut bank, hops, 0..count);
+        test(&bank, rounds)
+    };
+    let others = [
+        heard(&noisy, RING_LEN / 2 * DECIMATION_HOPS),
+        heard(&partly(&noisy, |k| k % 8 == 0), SETTLING),
+        heard(&partly(&noisy, |k| [0, 7, 8, 15].contains(&(k % 16))), SETTLING),
+        test(&filled_unlike(bank), rounds),
+    ];
     println!("soundness after silence, n = {n}");
-    for (what, test) in ["silence", "five entries noise", "half noise", "noise", "noise, half full"].iter().zip(tests.into_iter().chain([filling])) {
+    let names = ["silence", "five entries noise", "half noise", "noise"].into_iter();
+    let other_names = ["noise, half full", "silence on each eighth", "silence on 0, 7, 8, 15", "rings of seven fills"];
+    for (what, test) in names.chain(other_names).zip(tests.into_iter().chain(others)) {
         println!("  {what:<22} {test:9.2} µs   times noise {:7.2}", test / tests[3]);
     }
 }
 
+/// The same hops with digital silence on some channels.
+fn partly(noisy: &[(Vec<f64>, Vec<f32>)], is_silent: fn(usize) -> bool) -> Vec<(Vec<f64>, Vec<f32>)> {
+    let mut hops = noisy.to_vec();
+    for (db, power) in &mut hops {
+        (0..db.len()).filter(|&k| is_silent(k)).for_each(|k| (db[k], power[k]) = (-200.0, 0.0));
+    }
+    hops
+}
+
+/// A bank of full rings, made by hand one whose rings have 244 to 250 entries, channel after channel.
+fn filled_unlike(mut bank: (Vec<u16>, Vec<f64>)) -> (Vec<u16>, Vec<f64>) {
+    let n = bank.0[0] as usize;
+    for k in 0..n {
+        let c = &mut bank.0[place(n, k)..][..CHANNEL_LEN];
+        let filled = RING_LEN - k % 7;
+        (filled..RING_LEN).for_each(|i| c[COUNTS + c[i] as usize] -= 1);
+        if filled < RING_LEN {
+            (c[NEXT], c[FILLED]) = (filled as u16, filled as u16);
+        }
+    }
+    bank
+}
+
 const LENGTHS: [u16; 3] = [15, 75, 375];
 
-/// As a receiver runs them: each hop a bank update and then a gate update; holds beside it. The longest windows are summed afresh
-/// every 750 hops. Floors are at rest but after slow hops; at every fifth hop all of them are moved first, by an eighth of a dB up or
-/// down, so that no remembered threshold serves.
+/// As a receiver runs them: each hop a bank update and then a gate update; holds beside it. Rings and windows are full before anything is
+/// timed. The longest windows are summed afresh every 750 hops. Floors are at rest but after slow hops; at every fifth hop all of them are
+/// moved first, by an eighth of a dB up or down, so that no remembered threshold serves.
 fn gate_rows(n: usize, rounds: usize) {
     let hops = hops(n, Feed::Noise);
     let (mut bank, mut gate) = (FloorBank::new(n), Gate::made(n, [48, 16, 96], &LENGTHS));
@@ -175,7 +214,7 @@ fn gate_rows(n: usize, rounds: usize) {
     let [mut holds, mut old_holds, mut moved_holds, mut old_moved_holds]: [Vec<f64>; 4] = Default::default();
     let [mut both, mut old_both, mut tests]: [Vec<f64>; 3] = Default::default();
     let move_floors = |f: &mut [f64], by: f64| f[3 * n..4 * n].iter_mut().for_each(|x| *x += by);
-    for hop in 0..rounds * 750 {
+    for hop in 0..SETTLING + rounds * 750 {
         let (db, power) = &hops[hop % hops.len()];
         let first = time(|| wolfcloak::bank_update(&mut u, &mut f, db, power, None));
         let old_first = time(|| bank.update(db, power));
@@ -189,6 +228,9 @@ fn gate_rows(n: usize, rounds: usize) {
         let mut marks = (vec![], vec![]);
         let old_second = time(|| marks = gate.update(db, power, &bank));
         assert!(marks.0.iter().zip(&rise).all(|(&m, &byte)| m as u8 == byte));
+        if hop < SETTLING {
+            continue;
+        }
         let is_afresh = hop % 750 == 749;
         let (ours, old) = match (is_afresh, is_moved, hop % 15 == 0) {
             (true, ..) => (&mut afresh, &mut old_afresh),

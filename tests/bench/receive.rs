@@ -1,6 +1,7 @@
 // A run of hops beside floor.rs's two updates of each of them, and the same hops by single calls. Whole stretches are timed, slow hops and the hop
 // that sums afresh in them on every side; what is told is the time of one hop. Single calls are timed once more in turn with floor.rs, hop by hop:
-// alone for a whole stretch, floor.rs keeps its windows in the cache.
+// alone for a whole stretch, floor.rs keeps its windows in the cache. What one core keeps up with is told by many sets in turn, of which the caches
+// keep none from one turn to the next.
 use crate::floor::{FloorBank, Gate};
 use crate::numbers::Feed;
 use crate::{hops, median, time, wolfcloak, LENGTHS};
@@ -27,6 +28,7 @@ impl Air {
     }
 }
 
+#[derive(Clone)]
 struct Set {
     u: Vec<u16>,
     f: Vec<f64>,
@@ -42,13 +44,11 @@ impl Set {
         Set { u, f, g, h, rise: vec![0; STRETCH * n], drop: vec![0; STRETCH * n] }
     }
 
-    fn by_runs(&mut self, air: &Air, run: usize) {
-        for from in (0..STRETCH).step_by(run) {
-            let its = from * air.n..(from + run) * air.n;
-            let hops = (&air.hold[from..from + run], &air.db[its.clone()], &air.power[its.clone()]);
-            let marks = (&mut self.rise[its.clone()], &mut self.drop[its]);
-            assert_eq!(wolfcloak::receive((&mut self.u, &mut self.f), (&mut self.g, &mut self.h), hops, marks), 0);
-        }
+    fn run(&mut self, air: &Air, from: usize, hops: usize) {
+        let its = from * air.n..(from + hops) * air.n;
+        let lent = (&air.hold[from..from + hops], &air.db[its.clone()], &air.power[its.clone()]);
+        let marks = (&mut self.rise[its.clone()], &mut self.drop[its]);
+        assert_eq!(wolfcloak::receive((&mut self.u, &mut self.f), (&mut self.g, &mut self.h), lent, marks), 0);
     }
 
     fn single(&mut self, air: &Air, hop: usize) {
@@ -57,10 +57,6 @@ impl Set {
         let marks = (&mut self.rise[its.clone()], &mut self.drop[its]);
         assert_eq!(wolfcloak::bank_update(&mut self.u, &mut self.f, db, power, None), 0);
         assert_eq!(wolfcloak::gate_update((&self.u, &self.f), (&mut self.g, &mut self.h), (db, power), marks), 0);
-    }
-
-    fn one_by_one(&mut self, air: &Air) {
-        (0..STRETCH).for_each(|hop| self.single(air, hop));
     }
 }
 
@@ -86,14 +82,22 @@ fn in_turn(bank: &mut FloorBank, gate: &mut Gate, set: &mut Set, air: &Air) -> (
     (old / STRETCH as f64, ours / STRETCH as f64)
 }
 
-/// How a set is fed, and how many times floor.rs's time is aimed at, for 32 channels and for 512.
-type Way = (&'static str, fn(&mut Set, &Air), [f64; 2]);
+/// How a set is fed: how many hops at a time, and these, from one of them on. And how many times floor.rs's time is aimed at, for 32 channels and
+/// for 512; runs of one hop have the aim of single calls, in whose place they can stand.
+type Way = (&'static str, usize, fn(&mut Set, &Air, usize), [f64; 2]);
 
-const WAYS: [Way; 3] = [
-    ("runs of 375 hops", |set, air| set.by_runs(air, 375), [1.0; 2]),
-    ("runs of 25 hops", |set, air| set.by_runs(air, 25), [1.5; 2]),
-    ("single calls", |set, air| set.one_by_one(air), SINGLE),
+const WAYS: [Way; 4] = [
+    ("runs of 375 hops", 375, |set, air, from| set.run(air, from, 375), [1.0; 2]),
+    ("runs of 25 hops", 25, |set, air, from| set.run(air, from, 25), [1.5; 2]),
+    ("runs of one hop", 1, |set, air, from| set.run(air, from, 1), SINGLE),
+    ("single calls", 1, Set::single, SINGLE),
 ];
+
+/// A stretch by every set, each fed so many hops in its turn: the time of a hop.
+fn stretch(sets: &mut [Set], air: &Air, &(_, hops, hear, _): &Way) -> f64 {
+    let turns = (0..STRETCH).step_by(hops);
+    time(|| turns.for_each(|from| sets.iter_mut().for_each(|set| hear(set, air, from)))) / (STRETCH * sets.len()) as f64
+}
 
 const SINGLE: [f64; 2] = [10.0, 5.0];
 
@@ -112,6 +116,21 @@ fn turn_row(n: usize, rounds: usize, air: &Air) {
     row("single calls, in turn", n, median(ours), median(old), SINGLE);
 }
 
+/// Segments of a band: sets in turn, whose stores are 55 MB for 32 channels and 107 MB for 512, more than the caches have. All hear the same hops.
+fn segment_rows(n: usize, warm: &Set, air: &Air) {
+    let mut sets = vec![warm.clone(); if n > 32 { 24 } else { 200 }];
+    for way in &WAYS {
+        let ours = median((0..5).map(|_| stretch(&mut sets, air, way)).collect());
+        let (count, segments) = (sets.len(), 1e6 / HOPS_A_SECOND / ours);
+        println!(
+            "  {:<22} {ours:9.2} µs   {count} sets in turn: one core keeps up with {segments:7.1} segments of {n}, {:8.0} channels",
+            way.0,
+            segments * n as f64
+        );
+    }
+    assert!(sets.iter().all(|set| set.u == sets[0].u && set.g == sets[0].g));
+}
+
 pub fn rows(n: usize, rounds: usize) {
     let air = Air::noise(n);
     let (mut bank, mut gate) = (FloorBank::new(n), Gate::made(n, [48, 16, 96], &LENGTHS));
@@ -124,8 +143,8 @@ pub fn rows(n: usize, rounds: usize) {
         old_times.extend(is_warm.then_some(old / STRETCH as f64));
         // which of them comes right after floor.rs changes from round to round
         for i in (0..WAYS.len()).map(|i| (i + round) % WAYS.len()) {
-            let ours = time(|| WAYS[i].1(&mut sets[i], &air));
-            times[i].extend(is_warm.then_some(ours / STRETCH as f64));
+            let ours = stretch(&mut sets[i..=i], &air, &WAYS[i]);
+            times[i].extend(is_warm.then_some(ours));
             let last = &sets[i].rise[(STRETCH - 1) * n..];
             assert!(marks.0.iter().zip(last).all(|(&mark, &byte)| mark as u8 == byte));
         }
@@ -135,12 +154,9 @@ pub fn rows(n: usize, rounds: usize) {
     }
     let (times, old) = (times.map(median), median(old_times));
     println!("both updates of a hop, n = {n}, window lengths 15, 75, 375");
-    for ((what, _, aims), ours) in WAYS.into_iter().zip(times) {
+    for ((what, .., aims), ours) in WAYS.into_iter().zip(times) {
         row(what, n, ours, old, aims);
     }
     turn_row(n, rounds, &air);
-    for ((what, ..), ours) in WAYS.into_iter().zip(times) {
-        let segments = 1e6 / HOPS_A_SECOND / ours;
-        println!("  one core keeps up with {segments:7.1} segments of {n}, {:8.0} channels, by {what}", segments * n as f64);
-    }
+    segment_rows(n, &sets[0], &air);
 }

@@ -1,9 +1,10 @@
 // gate calls that carry the map beside those without, and the registers.
 use crate::floor::{FloorBank, Gate};
+use crate::layout::SETTLING;
 use crate::numbers::Feed;
 use crate::{hops, map_rows, median, time, wolfcloak, LENGTHS};
 
-/// Two gates hear the same hops after one bank, the second with a map; which of them goes first changes from hop to hop.
+/// Two gates hear the same hops after one bank whose rings are full, the second with a map; which of them goes first changes from hop to hop.
 pub fn rows(n: usize, rounds: usize) {
     let hops = hops(n, Feed::Noise);
     let ((mut u, mut f), (mut g, mut h)) = (FloorBank::new(n).to_stores(), Gate::made(n, [48, 16, 96], &LENGTHS).to_stores());
@@ -12,9 +13,12 @@ pub fn rows(n: usize, rounds: usize) {
     let (mut rise, mut drop) = (vec![0; n], vec![0; n]);
     let [mut without, mut with, mut holds, mut holds_with, mut reads, mut writes, mut wires, mut tests]: [Vec<f64>; 8] = Default::default();
     assert_eq!(map_rows::new((&g, &h), &mut map), 0);
-    for hop in 0..rounds * 750 {
+    for hop in 0..SETTLING + rounds * 750 {
         let (db, power) = &hops[hop % hops.len()];
         assert_eq!(wolfcloak::bank_update(&mut u, &mut f, db, power, None), 0);
+        if hop < SETTLING {
+            continue;
+        }
         for second in [hop % 2 == 0, hop % 2 == 1] {
             let marks = (&mut rise[..], &mut drop[..]);
             if second {

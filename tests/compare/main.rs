@@ -85,9 +85,7 @@ fn job(i: usize, seed: u64, alone: &mut Alone) -> Option<Tally> {
         let n = receive::SIZES[i - spans - 1];
         receive::lists(&mut t, n, &mut rng);
         receive::garbled_hops(&mut t, n, &mut rng);
-        if n < 40 {
-            receive::refusals(&mut t, n, &mut rng);
-        }
+        receive::refusals(&mut t, n, &mut rng);
     } else if i <= received + SIZES.len() {
         let n = SIZES[i - received - 1];
         (0..6000 / (n + 10)).for_each(|_| faults::any_sound_store(&mut t, n, &mut rng));

@@ -312,11 +312,17 @@ impl Lent {
     }
 }
 
+/// Runs for a garbled hop: short ones, one of a second and, for two sizes and few phases, which say enough of it, one of more than the rings hold.
+fn garbled_runs(n: usize, phase: usize) -> impl Iterator<Item = usize> {
+    let is_long = matches!(n, 2 | 33) && matches!(phase, 0 | 7);
+    [1, 14, 15, 16, 50, 375].into_iter().chain(is_long.then_some(4000))
+}
+
 /// A NaN dB at the first slow hop, at one in the middle, at the last, at another hop and at all of these, held or not.
 pub fn garbled_hops(t: &mut Tally, n: usize, rng: &mut Rng) {
     let mut answers = BTreeSet::new();
     for phase in (0..DECIMATION_HOPS).step_by(if n < 100 { 1 } else { 7 }) {
-        for hops in [1, 14, 15, 16, 50] {
+        for hops in garbled_runs(n, phase) {
             let l = Lent::any(n, phase, hops, rng);
             let slow = l.slow();
             let places = slow.first().into_iter().chain(slow.get(slow.len() / 2)).chain(slow.last()).copied();
@@ -341,7 +347,8 @@ type Fault = (&'static str, fn(&mut Lent, &mut Rng));
 
 const FAULTS: [Fault; 40] = [
     ("a gate of another n", |l, _| {
-        let other = Set::fresh(l.set.n() + 1, [0; 3], &[1, 2]);
+        let n = l.set.n();
+        let other = Set::fresh(if n < 512 { n + 1 } else { n - 1 }, [0; 3], &[1, 2]);
         (l.set.gate, l.set.gate_f) = (other.gate, other.gate_f)
     }),
     ("a keeper", |l, _| l.role = KEEPER),

@@ -1,7 +1,11 @@
 // The kept list: calls with floor.rs's answers, for the program `replay` (README.md has the form).
 use crate::floor::{FloorBank, Gate, ABSENT};
+use crate::layout::DECIMATION_HOPS;
 use crate::numbers::{any_f32, any_f64, edge, finite_f32, old_bottom, Rng, OLD_BOTTOM};
 use crate::rules::garbled;
+
+/// The row of dB that is NaN.
+const NAN_ROW: u8 = 1;
 
 struct List {
     bytes: Vec<u8>,
@@ -13,19 +17,26 @@ struct List {
     marks: (Vec<bool>, Vec<bool>),
 }
 
+/// A run: a hold for each hop, and rows of dB and power hop after hop.
+#[derive(Clone)]
+struct Hops {
+    hold: Vec<u8>,
+    rows: Vec<(u8, u8)>,
+}
+
 impl List {
     /// The tables at the head: any floats, edges of bins, and noise, some of it below -140 dB; row 0 is digital silence.
     fn new(mut rng: Rng) -> List {
         let db = |i, rng: &mut Rng| match i {
             0 => -200.0,
-            1 => f64::NAN,
+            NAN_ROW => f64::NAN,
             2..=21 => old_bottom(rng.below(OLD_BOTTOM)),
             22..=39 => edge(rng),
             40..=79 => any_f64(rng),
             200.. => -160.0 + 20.0 * rng.unit(),
             _ => -100.0 + 30.0 * rng.unit(),
         };
-        let db: Vec<f64> = (0..256).map(|i| db(i, &mut rng)).collect();
+        let db: Vec<f64> = (0..=255).map(|i| db(i, &mut rng)).collect();
         let power = |i, rng: &mut Rng| match i {
             0 => 0.0,
             1..=79 => finite_f32(rng),
@@ -187,6 +198,73 @@ impl List {
         self.gate(7, 8);
         self.gate(8, 8);
     }
+
+    /// The hops from this one on, none of them garbled, some held: channels are louder than others by turns, and odd values are among them.
+    fn next_hops(&mut self, n: usize, from: usize, hops: usize) -> Hops {
+        let (loud, quiet): (Vec<u8>, Vec<u8>) = (80..200).partition(|&row| self.db[row as usize] > -80.0);
+        let hold = (0..hops).map(|_| if self.rng.one_in(5) { self.rng.pick(&[1, 2, 128, 255]) } else { 0 }).collect();
+        let mut run = Hops { hold, rows: vec![] };
+        if hops > 1 {
+            (run.hold[hops / 2], run.hold[hops / 2 + 2]) = (1, 255);
+        }
+        for (hop, k) in (from..from + hops).flat_map(|hop| (0..n).map(move |k| (hop, k))) {
+            let row = self.rng.pick(if (hop / 4 + k) % 5 == 0 { &loud } else { &quiet });
+            run.rows.push(if self.rng.one_in(30) { (2 + self.rng.below(38) as u8, 0) } else { (row, row) });
+        }
+        run
+    }
+
+    /// 11, hops, the holds, the rows of dB, the rows of power, answer, the rise bytes, the drop bytes. A run that is refused is not heard, and
+    /// leaves its marks as they were lent, which is 0.
+    fn receive(&mut self, bank: &mut FloorBank, gate: &mut Gate, run: &Hops, answer: u8) {
+        let n = bank.n_channels();
+        let (mut rise, mut drop) = (vec![false; run.rows.len()], vec![false; run.rows.len()]);
+        for (i, &hold) in run.hold.iter().enumerate().filter(|_| answer == 0) {
+            let its = i * n..(i + 1) * n;
+            let (db, power): (Vec<f64>, Vec<f32>) =
+                run.rows[its.clone()].iter().map(|&(d, p)| (self.db[d as usize], self.power[p as usize])).unzip();
+            bank.update_holding_reference(&db, &power, hold != 0);
+            let marks = if hold != 0 { gate.hold(bank) } else { gate.update(&db, &power, bank) };
+            rise[its.clone()].copy_from_slice(&marks.0);
+            drop[its].copy_from_slice(&marks.1);
+        }
+        self.bytes.extend([11, run.hold.len() as u8]);
+        self.bytes.extend(&run.hold);
+        self.bytes.extend(run.rows.iter().map(|row| row.0));
+        self.bytes.extend(run.rows.iter().map(|row| row.1));
+        self.bytes.push(answer);
+        self.bytes.extend(rise.iter().chain(&drop).map(|&m| m as u8));
+        self.stores(4, bank.to_stores());
+        self.stores(10, gate.to_stores());
+    }
+
+    /// A bank and a gate from fresh, fed by runs alone; at the end one whose last slow hop is garbled, held or not, the same with the NaN a hop
+    /// later, which is taken, and one with a gate of another n.
+    fn runs(&mut self, n: u8, levels: [i32; 3], lengths: &[u16]) {
+        let (mut bank, mut gate) = (FloorBank::new(n as usize), Gate::made(n as usize, levels, lengths));
+        self.make(n);
+        self.make_gate(n, gate.to_stores().1.len(), levels, lengths, 0);
+        let mut from = 0;
+        for hops in [0, 1, 14, 15, 16, 46] {
+            let run = self.next_hops(n as usize, from, hops);
+            self.receive(&mut bank, &mut gate, &run, 0);
+            from += hops;
+        }
+        let mut run = self.next_hops(n as usize, from, 31);
+        let last_slow = (0..31).rev().find(|hop| (from + hop) % DECIMATION_HOPS == 0).unwrap();
+        run.hold[last_slow] = 255;
+        for (hop, hold, answer) in [(last_slow, 0, 6), (last_slow, 255, 6), (last_slow + 1, 0, 0)] {
+            let mut odd = run.clone();
+            odd.hold[hop] = hold;
+            odd.rows[hop * n as usize + 1].0 = NAN_ROW;
+            self.receive(&mut bank, &mut gate, &odd, answer);
+        }
+        let other = n - 1;
+        let mut other_gate = Gate::made(other as usize, levels, &[1]);
+        self.make_gate(other, 7 * other as usize, levels, &[1], 0);
+        let run = self.next_hops(n as usize, from, 1);
+        self.receive(&mut bank, &mut other_gate, &run, 8);
+    }
 }
 
 pub fn list() -> Vec<u8> {
@@ -201,6 +279,8 @@ pub fn list() -> Vec<u8> {
     list.gate_run(3, [24, 40, 96], &[1, 5, 375, 5], 1700);
     list.gate_run(6, [48, 32, ABSENT], &[1, 2, 3, 4, 5, 6, 7, 8], 600);
     list.gate_run(33, [32, 24, 72], &[3, 2, 3], 150);
+    list.runs(33, [32, 24, 72], &[1, 2]);
+    list.runs(2, [40, 16, ABSENT], &[3, 1, 5]);
     list.bytes.push(0);
     list.bytes
 }

@@ -24,7 +24,7 @@ fn push_at(bank: &mut [u16], a: usize, p: f64, quiet: bool)
     ring::push(&mut bank[a..e], bin, quiet);
 }
 
-// Each channel takes the bin of its dB; a block with no seed push yet is still in its leading silence.
+// Each channel takes the bin of its dB. Until its block has a seed push, an entry of bin 0 counts as lead.
 pub fn push_all(bank: &mut [u16], bank_f: &[f64], power_db: &[f64])
     requires { ⌜ Ready (now bank) (now «bank_f») × (length (now «power_db») ≡ getD (now bank) 0 0) ⌝ }
     ensures { λ _. ⌜ now (bank .exit) ≡ bankU (pushStep (now («power_db» .entry)) (bankOf (now (bank .entry)) (now («bank_f» .entry)))) ⌝ }

@@ -1,5 +1,5 @@
-// Whether a channel's part of the bank's store is sound. It runs over the whole store at every call, so its loops count what is wrong
-// and never leave early: such a loop is compiled to wide steps.
+// Whether a channel's part of the bank's store is sound. It is asked of what `bank_sixteens` leaves: silence, fewer than eight channels, rings of
+// different fill. Its loops count what is wrong and never leave early: such a loop is compiled to wide steps.
 ghost use mathlib.Core.Path.{_≡_};
 ghost use mathlib.Core.Bool.{not};
 ghost use Prim.Native.Nat.{ℕ, _+_, _≤_, _<_};

@@ -1,4 +1,4 @@
-// Document 01, "Stores", the gate's half: the test of a lent gate, the refusals in their order, and a fresh gate.
+// Document 01, "Stores", the gate's half: the test of a lent gate, and the refusals in their order.
 
 ghost use mathlib.Core.Path.{_≡_};
 ghost use Rattle.model.specs.GateCalls.{gateRefusal, pairRefusal, gateUpdateRefusal, holdRefusal};

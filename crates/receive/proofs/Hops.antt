@@ -1,9 +1,8 @@
 -- One hop of a run: what the steps of the single calls leave is what the calls leave. Assumes nothing.
 use mathlib.Core.Path.{_≡_, refl, sym, ap, ap₂, subst, _∙_}
-use mathlib.Core.Bool.{Bool, true, false, not, cond}
+use mathlib.Core.Bool.{Bool, true, false, not}
 use mathlib.Core.List.{List}
 use Prim.Native.Nat.{ℕ}
-use lib.Dec.{eqb}
 use lib.ListN.{length, getD}
 use lib.Ieee.{Float}
 use borrow.Author.Tests.{eq-eqb, ne-eqb}
@@ -16,15 +15,15 @@ use Rattle.model.specs.GateCalls.{gateUpdate, gateHold}
 use Rattle.model.specs.GoodBank.{Ready}
 use Rattle.model.proofs.GoodBanks.{ready}
 use Rattle.model.proofs.GoodGates.{gate-ready}
-use Rattle.model.specs.Demand3.{Stores, Call, askedBy, gate, hold, does, step, left, risesDone, risesOf}
-use Rattle.roles.specs.Rights.{technician, asRole}
+use Rattle.model.specs.Demand3.{Stores, gate, hold, does, step, left, risesDone, risesOf}
+use Rattle.roles.specs.Rights.{asRole}
 use Rattle.bank_stages.specs.Steps.{Holds}
 use Rattle.bank_stages.proofs.Stages.{accepted}
 use Rattle.gate_cursors.specs.Paired.{Paired}
 use Rattle.gate.specs.Hops.{Takes, Keeps, Taken}
 use Rattle.gate.proofs.Calls.{updated, held-marks}
-use Rattle.run_model.specs.Runs.{RunHop, isHeld, bankCall, gateCall, dropsDone, dropsOf, alone}
-use Rattle.run_model.specs.Hops.{Fit, Long, HopFits, hopLeft, hopRises, hopDrops, Stepped}
+use Rattle.run_model.specs.Runs.{RunHop, isHeld, bankCall, dropsDone, dropsOf, alone}
+use Rattle.run_model.specs.Hops.{Fit, HopFits, gateBy, Stepped}
 use Rattle.run_model.proofs.Taken.{none, bank-fits, update-none, hold-none}
 
 pub paired-of : (n : ℕ) (s : Stores) → Fit n s → Paired (s .bu) (s .bf) (s .gu) (s .gf)
@@ -46,10 +45,6 @@ module _ (s : Stores) (h : RunHop) (v : HopFits s h) where
   bank-left u f q =
       let e = accepted (s .bu) u (s .bf) f (hop (isHeld h) (h .db) (h .power)) (none (getD (s .gu) 0 0) s (v .fit) h (v .long) (v .clear)) q in
       (ap (λ (a : ℕ × List ℕ × List Float). a .1) e, ap (λ (a : ℕ × List ℕ × List Float). a .2) e)
-
--- what the gate's call leaves, by whether the hop is held
-abbrev gateBy : RunHop → Bool → Call
-gateBy h b = askedBy technician (cond b (hold false (h .rise) (h .drop)) (gate false (record { db = h .db; power = h .power }) (h .rise) (h .drop)))
 
 module _ (bu : List ℕ) (bf : List Float) (gu : List ℕ) (gf : List Float) (h : RunHop) (v : HopFits (alone bu bf gu gf) h) where
   abbrev s : Stores

@@ -8,7 +8,7 @@ use replay_data::state::MOST_GATE_F_LEN;
 use replay_data::state::MOST_LEN;
 use replay_data::state::Replay;
 
-const MOST_BYTES: usize = 500000;
+const MOST_BYTES: usize = 600000;
 
 // A record takes two bytes or more, so there are no more turns than bytes.
 fn replay_list(list: &[u8]) -> Replay {

@@ -14,6 +14,7 @@ use replay_data::state::ended;
 use replay_data::state::sized;
 use replay_data::state::store_f_len;
 use replay_data::state::store_len;
+use replay_runs::replay_run;
 
 fn replay_record(
     list: &[u8],
@@ -29,6 +30,7 @@ fn replay_record(
     match kind {
         1..=5 => replay_bank(list, r, kind, bank, bank_f),
         6..=10 => replay_gate(list, r, kind, bank, bank_f, gate, gate_f, rise, drop),
+        11 => replay_run(list, r, bank, bank_f, gate, gate_f),
         _ => ended(r),
     }
 }

@@ -109,7 +109,7 @@ fn update_by(
     gate::gate_update(bank, bank_f, gate, gate_f, db, power, rise, drop)
 }
 
-// A gate update with the hop that the bank heard last.
+// A gate update with the hop of the last single bank update.
 fn update(
     list: &[u8],
     r: Replay,

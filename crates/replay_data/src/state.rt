@@ -39,7 +39,7 @@ pub fn store_f_len(n: u8) -> usize
     4 * n + 2 * ((n + BLOCK_REST) / BLOCK_CHANNELS)
 }
 
-// hop is where the hop stands that the bank heard last; n is the bank's; floats is how long the gate's f64 store is.
+// hop is where the hop of the last single bank update stands; n is the bank's; floats is how long the gate's f64 store is.
 pub struct Replay {
     pub at: usize,
     pub hop: usize,

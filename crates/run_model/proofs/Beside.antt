@@ -1,13 +1,13 @@
 -- The calls of a run see nothing of what stands beside a bank and a gate, and leave it. Assumes nothing.
 use mathlib.Core.Path.{_≡_, refl, sym, ap, ap₂, _∙_}
-use mathlib.Core.Bool.{Bool, true, false, cond}
+use mathlib.Core.Bool.{Bool, true, false}
 use mathlib.Core.List.{List, [], _∷_, _++_}
 use Prim.Native.Nat.{ℕ}
-use Rattle.model.specs.Demand3.{Stores, Call, askedBy, gate, hold, does, step, left, leftBy, risesDone, risesOf}
-use Rattle.roles.specs.Rights.{technician, asRole}
+use Rattle.model.specs.Demand3.{Stores, gate, does, step, left, leftBy, risesDone, risesOf}
+use Rattle.roles.specs.Rights.{asRole}
 use Rattle.run_model.specs.Runs.{RunHop, isHeld, bankCall, gateCall, callsOf, dropsDone, dropsOf, risesBy, dropsBy, alone}
 use Rattle.run_model.specs.Claims.{with-run}
-use Rattle.run_model.specs.Hops.{hopLeft, hopRises, hopDrops}
+use Rattle.run_model.specs.Hops.{gateBy, hopLeft, hopRises, hopDrops}
 
 abbrev pub four : Stores → Stores
 four s = alone (s .bu) (s .bf) (s .gu) (s .gf)
@@ -15,10 +15,6 @@ four s = alone (s .bu) (s .bf) (s .gu) (s .gf)
 -- s with the bank and the gate of t
 abbrev pub over : Stores → Stores → Stores
 over s t = with-run s (t .bu) (t .bf) (t .gu) (t .gf)
-
--- what a gate's call of a hop is, by whether it is held
-abbrev gateBy : RunHop → Bool → Call
-gateBy h b = askedBy technician (cond b (hold false (h .rise) (h .drop)) (gate false (record { db = h .db; power = h .power }) (h .rise) (h .drop)))
 
 bank-four : (s : Stores) (h : RunHop) → left (four s) (bankCall h) ≡ four (left s (bankCall h))
 unfolding step does asRole

@@ -1,6 +1,6 @@
 -- What a run of hops can be relied on for, proved. Assumes nothing.
-use mathlib.Core.Path.{_≡_, refl, sym, ap, _∙_}
-use mathlib.Core.Bool.{Bool, true, false, cond, _&&_, _||_}
+use mathlib.Core.Path.{_≡_, refl, sym, ap, subst, _∙_}
+use mathlib.Core.Bool.{Bool, true, false, cond, _||_}
 use mathlib.Core.List.{List, [], _∷_}
 use Prim.Native.Nat.{ℕ, zero, suc, _+_, _*_}
 use native.Mathlib.Nat.{zero-mul}
@@ -12,10 +12,10 @@ use borrow.Author.Tests.{eqb-true}
 use Rattle.laws.specs.Tests.{differ, first}
 use Rattle.laws.proofs.Tests.{by-test, neither, passed, same-of, or-l, or-r, clash}
 use Rattle.model.specs.GateCalls.{pairRefusal}
-use Rattle.model.specs.Demand3.{Stores, leftBy, answers}
+use Rattle.model.specs.Demand3.{Stores, leftBy}
 use Rattle.roles.specs.Rights.{receive, may, asRole}
-use Rattle.run_model.specs.Runs.{Run, RunHop, hopsOf, hopsFrom, callsOf, garbledRun, notLong, runRefusal, Received, alone, runLeaves, received}
-use Rattle.run_model.specs.Claims.{refusalOn, receivedOn, callsOn, with-run, AsCalls, AcceptedRun, RefusedExactly, NoHops, runCalls, ReceiveDoes}
+use Rattle.run_model.specs.Runs.{Run, hopsOf, hopsFrom, risesBy, dropsBy, garbledRun, notLong, runRefusal, Received, alone, runLeaves, received}
+use Rattle.run_model.specs.Claims.{refusalOn, receivedOn, callsOn, with-run, AcceptedRun, RefusedExactly, NoHops, isHeard, AsList, ReceiveDoes}
 use Rattle.run_model.proofs.Taken.{fit-of}
 use Rattle.run_model.proofs.Beside.{run-over, run-rises, run-drops}
 use Rattle.run_model.proofs.Runs.{AllLong, hops-long, none-refused, refused-exactly}
@@ -52,7 +52,7 @@ passes s r e =
     record { pair = a .0; long = b .0; clear = c .0 }
 
 -- as many hops as holds
-hops-many : (n : ℕ) (hold : List ℕ) (db power : List Float) (rise drop : List ℕ) → length (hopsFrom n hold db power rise drop) ≡ length hold
+pub hops-many : (n : ℕ) (hold : List ℕ) (db power : List Float) (rise drop : List ℕ) → length (hopsFrom n hold db power rise drop) ≡ length hold
 hops-many n [] db power rise drop = refl
 hops-many n (x ∷ xs) db power rise drop = ap suc (hops-many n xs _ _ _ _)
 
@@ -110,25 +110,51 @@ no-hops s db power rise drop =
     let l = run-long n r (passes s r e .long) in
     (l .2 ∙ zero-mul n, l .3 ∙ zero-mul n))
 
--- a refused run leaves the set
+-- ---- the exported call
+
+abbrev Left : ℕ → Stores → Run → Received → Type 0
+Left role s r a = AsList s role r (a .0) (a .1) (a .2) (a .3) (a .4) (a .5) (a .6)
+
+-- a run that is heard
+heard : (s : Stores) (r : Run) (role : ℕ) → may receive role ≡ true → refusalOn s r ≡ 0 → Left role s r (receivedOn s r)
+heard s r role m e =
+    let a = accepted-run s r e in
+    let h : isHeard role s r ≡ true = rw (m, e) refl in
+    record {
+      answer = a .accepted ∙ sym (rw (m, e) refl);
+      stores = rw h (a .stores);
+      rises = rw h (a .rises);
+      drops = rw h (a .drops);
+    }
+
+-- one that is not leaves what was there
+unheard : (s : Stores) (r : Run) (role x : ℕ) → isHeard role s r ≡ false → x ≡ cond (may receive role) (refusalOn s r) 16
+    → Left role s r (x, s .bu, s .bf, s .gu, s .gf, r .rise, r .drop)
+unheard s r role x h e =
+    record {
+      answer = e;
+      stores = rw h refl;
+      rises = rw h refl;
+      drops = rw h refl;
+    }
+
 refused-leaves : (x : ℕ) (s : Stores) (r : Run) → eqb x 0 ≡ false
-    → let a = runLeaves x (alone (s .bu) (s .bf) (s .gu) (s .gf)) r in with-run s (a .1) (a .2) (a .3) (a .4) ≡ s
+    → (x, s .bu, s .bf, s .gu, s .gf, r .rise, r .drop) ≡ runLeaves x (alone (s .bu) (s .bf) (s .gu) (s .gf)) r
 refused-leaves zero s r e = clash e
 refused-leaves (suc x) s r e = refl
 
-run-does : (s : Stores) (r : Run) → let a = receivedOn s r in
-    with-run s (a .1) (a .2) (a .3) (a .4) ≡ leftBy s (cond (eqb (refusalOn s r) 0) (callsOn s r) [])
+run-does : (s : Stores) (r : Run) (role : ℕ) → may receive role ≡ true → Left role s r (receivedOn s r)
 unfolding received
-run-does s r =
+run-does s r role m =
     by-test (eqb (refusalOn s r) 0)
-    (λ t. accepted-run s r (eqb-true (refusalOn s r) 0 t) .stores ∙ ap (λ (b : Bool). leftBy s (cond b (callsOn s r) [])) (sym t))
-    (λ t. refused-leaves (refusalOn s r) s r t ∙ ap (λ (b : Bool). leftBy s (cond b (callsOn s r) [])) (sym t))
+    (λ t. heard s r role m (eqb-true (refusalOn s r) 0 t))
+    (λ t. subst (Left role s r) (refused-leaves (refusalOn s r) s r t) (unheard s r role (refusalOn s r) (rw (m, t) refl) (sym (rw m refl))))
 
-by-right : (m : Bool) (s : Stores) (r : Run) → let a = cond m (receivedOn s r) (16, s .bu, s .bf, s .gu, s .gf, r .rise, r .drop) in
-    with-run s (a .1) (a .2) (a .3) (a .4) ≡ leftBy s (cond (m && eqb (refusalOn s r) 0) (callsOn s r) [])
-by-right true s r = run-does s r
-by-right false s r = refl
+by-right : (m : Bool) (s : Stores) (r : Run) (role : ℕ) → may receive role ≡ m
+    → Left role s r (cond m (receivedOn s r) (16, s .bu, s .bf, s .gu, s .gf, r .rise, r .drop))
+by-right true s r role e = run-does s r role e
+by-right false s r role e = unheard s r role 16 (rw e refl) (sym (rw e refl))
 
 pub receive-does : ReceiveDoes
 unfolding asRole
-receive-does s role r x u f g k rise drop e = ap (λ (a : Received). with-run s (a .1) (a .2) (a .3) (a .4)) e ∙ by-right (may receive role) s r
+receive-does s role r x u f g k rise drop e = subst (Left role s r) (sym e) (by-right (may receive role) s r role refl)

@@ -1,33 +1,28 @@
 -- One hop of a run on a bank and a gate that pass: its bank call is refused exactly where its hop is slow and garbled, its gate call never, and
 -- both leave a bank and a gate that pass. What stands beside them plays no part. Assumes nothing.
 use mathlib.Core.Path.{_≡_, refl, sym, ap, _∙_}
-use mathlib.Core.Bool.{Bool, true, false, not, cond, _&&_, _||_}
-use mathlib.Core.List.{List, [], _∷_}
+use mathlib.Core.Bool.{Bool, true, false, not}
 use Prim.Native.Nat.{ℕ, zero, suc, _+_, _%_}
 use native.Mathlib.Omega.{arith}
-use lib.Dec.{eqb}
 use lib.ListN.{length, getD}
-use lib.Ieee.{Float}
 use Rattle.laws.specs.Tests.{differ, first}
 use Rattle.laws.proofs.Tests.{neither, passed, same-of, agrees}
 use Rattle.model.specs.Layout.{decimationHops}
-use Rattle.model.specs.Bank.{FloorBank, Hop, hop, bankStep}
+use Rattle.model.specs.Bank.{FloorBank, hop, bankStep}
 use Rattle.model.specs.Stores.{bankOf}
 use Rattle.model.specs.Refusals.{bankRefusal, garbled, updateRefusal}
-use Rattle.model.specs.Calls.{bankUpdate}
-use Rattle.model.specs.Gate.{Gate, gateStep, refresh, updateStep, holdStep}
+use Rattle.model.specs.Gate.{Gate, gateStep, refresh, updateStep}
 use Rattle.model.specs.GateStores.{gateOf}
-use Rattle.model.specs.GateCalls.{GateHop, gateRefusal, pairRefusal, gateUpdateRefusal, holdRefusal, gateLeaves, gateUpdate, gateHold}
-use Rattle.model.specs.GoodBank.{Good}
+use Rattle.model.specs.GateCalls.{gateRefusal, pairRefusal, gateUpdateRefusal, holdRefusal, gateLeaves, gateUpdate, gateHold}
 use Rattle.model.proofs.GoodBanks.{ready}
 use Rattle.model.proofs.GoodGates.{gate-ready, n-of}
-use Rattle.model.specs.Demand3.{Stores, Call, askedBy, bank, gate, hold, does, step, answer, left}
-use Rattle.model.proofs.SettledFloors.{runBank, n-step, phase-step}
+use Rattle.model.specs.Demand3.{Stores, bank, gate, does, step, answer, left}
+use Rattle.model.proofs.SettledFloors.{n-step, phase-step}
 use Rattle.model.proofs.Carrying.{leaves-bank, answer-alone}
 use Rattle.model.proofs.Calls.{gateAfter, leaves-gate, leaves-hold}
-use Rattle.roles.specs.Rights.{technician, asRole}
+use Rattle.roles.specs.Rights.{asRole}
 use Rattle.run_model.specs.Runs.{RunHop, isHeld, bankCall, gateCall}
-use Rattle.run_model.specs.Hops.{Fit, Long, garbledHop}
+use Rattle.run_model.specs.Hops.{Fit, Long, garbledHop, hopOf, gateBy}
 
 pub fit-of : (s : Stores) → pairRefusal (s .bu) (s .bf) (s .gu) (s .gf) ≡ 0 → Fit (getD (s .gu) 0 0) s
 unfolding pairRefusal
@@ -66,7 +61,7 @@ module _ (n : ℕ) (s : Stores) (v : Fit n s) (h : RunHop) (l : Long n h) where
     pub none : updateRefusal (s .bu) (s .bf) (h .db) (h .power) ≡ 0
     none = bank-refusal ∙ rw g
 
-    bank-is : (bankRefusal (left s (bankCall h) .bu) (left s (bankCall h) .bf) ≡ 0)
+    pub bank-is : (bankRefusal (left s (bankCall h) .bu) (left s (bankCall h) .bf) ≡ 0)
         × (bankOf (left s (bankCall h) .bu) (left s (bankCall h) .bf) ≡ bankStep (bankOf (s .bu) (s .bf)) (hop (isHeld h) (h .db) (h .power)))
     unfolding step does asRole
     bank-is =
@@ -97,17 +92,7 @@ module _ (n : ℕ) (s : Stores) (v : Fit n s) (h : RunHop) (l : Long n h) where
   unfolding holdRefusal
   hold-none = rw (pair-passes n s v, v .gate-n, agrees (length (h .rise)) n (l .rise), agrees (length (h .drop)) n (l .drop))
 
-  abbrev hopOf : GateHop
-  hopOf = record { db = h .db; power = h .power }
-
-  -- the call of a hop that is not held, and of one that is
-  abbrev updateCall : Call
-  updateCall = askedBy technician (gate false hopOf (h .rise) (h .drop))
-
-  abbrev holdCall : Call
-  holdCall = askedBy technician (hold false (h .rise) (h .drop))
-
-  update-answer : answer s updateCall ≡ 0
+  update-answer : answer s (gateBy h false) ≡ 0
   unfolding step does asRole gateUpdate
   update-answer = go (gateUpdateRefusal (s .bu) (s .bf) (s .gu) (s .gf) (length (h .db)) (length (h .power)) (length (h .rise)) (length (h .drop))) update-none
     where
@@ -115,23 +100,23 @@ module _ (n : ℕ) (s : Stores) (v : Fit n s) (h : RunHop) (l : Long n h) where
       go zero e = refl
       go (suc r) e = e
 
-  hold-answer : answer s holdCall ≡ 0
+  hold-answer : answer s (gateBy h true) ≡ 0
   unfolding step does asRole gateHold
   hold-answer = hold-none
 
-  update-fits : Fit n (left s updateCall)
+  update-fits : Fit n (left s (gateBy h false))
   unfolding step does asRole gateUpdate updateStep refresh gateStep
   update-fits =
       let r = gateUpdateRefusal (s .bu) (s .bf) (s .gu) (s .gf) (length (h .db)) (length (h .power)) (length (h .rise)) (length (h .drop)) in
-      let q = leaves-gate (s .gu) (s .gf) (bankOf (s .bu) (s .bf)) false hopOf 0 0 (v .gate-passes) (gate-ready (s .gu) (s .gf) (v .gate-passes) .good) r in
+      let q = leaves-gate (s .gu) (s .gf) (bankOf (s .bu) (s .bf)) false (hopOf h) 0 0 (v .gate-passes) (gate-ready (s .gu) (s .gf) (v .gate-passes) .good) r in
       record {
         bank-passes = v .bank-passes;
         gate-passes = q .0;
         bank-n = v .bank-n;
-        gate-n = sym (n-of _ _) ∙ ap (λ (g : Gate). g .n) (q .1) ∙ ap (λ (x : ℕ). gateAfter x (gateOf (s .gu) (s .gf)) (bankOf (s .bu) (s .bf)) (gate false hopOf 0 0) .n) update-answer ∙ n-of (s .gu) (s .gf) ∙ v .gate-n;
+        gate-n = sym (n-of _ _) ∙ ap (λ (g : Gate). g .n) (q .1) ∙ ap (λ (x : ℕ). gateAfter x (gateOf (s .gu) (s .gf)) (bankOf (s .bu) (s .bf)) (gate false (hopOf h) 0 0) .n) update-answer ∙ n-of (s .gu) (s .gf) ∙ v .gate-n;
       }
 
-  hold-fits : Fit n (left s holdCall)
+  hold-fits : Fit n (left s (gateBy h true))
   unfolding step does asRole gateHold
   hold-fits =
       let q = leaves-hold (s .gu) (s .gf) (bankOf (s .bu) (s .bf)) false 0 0 (v .gate-passes) (gate-ready (s .gu) (s .gf) (v .gate-passes) .good) (holdRefusal (s .bu) (s .bf) (s .gu) (s .gf) (length (h .rise)) (length (h .drop))) in
@@ -141,9 +126,7 @@ module _ (n : ℕ) (s : Stores) (v : Fit n s) (h : RunHop) (l : Long n h) where
   pub gate-taken : (answer s (gateCall h) ≡ 0) × Fit n (left s (gateCall h))
   gate-taken = go (isHeld h)
     where
-      go : (b : Bool)
-          → let c = askedBy technician (cond b (hold false (h .rise) (h .drop)) (gate false hopOf (h .rise) (h .drop))) in
-          (answer s c ≡ 0) × Fit n (left s c)
+      go : (b : Bool) → (answer s (gateBy h b) ≡ 0) × Fit n (left s (gateBy h b))
       go true = (hold-answer, hold-fits)
       go false = (update-answer, update-fits)
 
@@ -152,8 +135,6 @@ module _ (n : ℕ) (s : Stores) (v : Fit n s) (h : RunHop) (l : Long n h) where
   unfolding step does asRole
   gate-bank = go (isHeld h)
     where
-      go : (b : Bool)
-          → let c = askedBy technician (cond b (hold false (h .rise) (h .drop)) (gate false hopOf (h .rise) (h .drop))) in
-          (left s c .bu ≡ s .bu) × (left s c .bf ≡ s .bf)
+      go : (b : Bool) → (left s (gateBy h b) .bu ≡ s .bu) × (left s (gateBy h b) .bf ≡ s .bf)
       go true = (refl, refl)
       go false = (refl, refl)

@@ -1,13 +1,14 @@
 -- What a run of hops can be relied on for. The proofs are in proofs/Claims.antt.
 use mathlib.Core.Path.{_≡_}
-use mathlib.Core.Bool.{Bool, true, false, not, cond, _&&_, _||_}
-use mathlib.Core.List.{List, [], _∷_}
-use Prim.Native.Nat.{ℕ, _+_}
+use mathlib.Core.Bool.{Bool, false, not, cond, _&&_, _||_}
+use mathlib.Core.List.{List, [], _∷_, map}
+use Prim.Native.Nat.{ℕ, _+_, _%_}
 use lib.Dec.{eqb}
 use lib.ListN.{length, getD, replicate}
 use lib.Ieee.{Float}
 use Rattle.model.specs.GateCalls.{pairRefusal}
-use Rattle.model.specs.Demand3.{Call, Stores, leftBy, answers}
+use Rattle.model.specs.Layout.{decimationHops}
+use Rattle.model.specs.Demand3.{Call, arguments, Stores, leftBy, answers, bankUpdates, Making, Lent, made, Made}
 use Rattle.roles.specs.Rights.{receive, may, asRole}
 use Rattle.run_model.specs.Runs.{Run, hopsOf, callsOf, risesBy, dropsBy, notLong, runRefusal, Received, received}
 
@@ -52,13 +53,42 @@ NoHops = (s : Stores) (db power : List Float) (rise drop : List ℕ)
     → let r : Run = record { hold = []; db = db; power = power; rise = rise; drop = drop } in
     receivedOn s r ≡ (refusalOn s r, s .bu, s .bf, s .gu, s .gf, rise, drop)
 
--- "a run is the list of its hops' calls": what a run on s asks of demand 3's lists. One that is stopped or refused asks nothing
-abbrev pub runCalls : ℕ → Stores → Run → List Call
-runCalls role s r = cond (may receive role && eqb (refusalOn s r) 0) (callsOn s r) []
+-- a run on s is stopped for lack of a right, refused, or heard
+abbrev pub isHeard : ℕ → Stores → Run → Bool
+isHeard role s r = may receive role && eqb (refusalOn s r) 0
 
--- wolfcloak_receive: from the equation that is its contract, what demand 3's lists leave. x, u, f, g, k, rise and drop are the answer and what
--- the lent slices hold at exit. So demand 3 covers runs, with no new claim
+-- "a run is the list of its hops' calls": what it asks of demand 3's lists. One that is not heard asks nothing
+abbrev pub runCalls : ℕ → Stores → Run → List Call
+runCalls role s r = cond (isHeard role s r) (callsOn s r) []
+
+-- what a run on s answers and leaves: the stores by demand 3's list, the marks those of its calls, or what was there before
+pub record AsList (s : Stores) (role : ℕ) (r : Run) (x : ℕ) (u : List ℕ) (f : List Float) (g : List ℕ) (k : List Float) (rise drop : List ℕ) : Type 0 where
+  pub answer : x ≡ cond (may receive role) (refusalOn s r) 16
+  pub stores : with-run s u f g k ≡ leftBy s (runCalls role s r)
+  pub rises : rise ≡ cond (isHeard role s r) (risesBy s (callsOn s r)) (r .rise)
+  pub drops : drop ≡ cond (isHeard role s r) (dropsBy s (callsOn s r)) (r .drop)
+
+-- wolfcloak_receive: from the equation that is its contract. x, u, f, g, k, rise and drop are the answer and what the lent slices hold at exit. So
+-- demand 3 covers runs, with no new claim
 abbrev pub ReceiveDoes : Type 0
 ReceiveDoes = (s : Stores) (role : ℕ) (r : Run) (x : ℕ) (u : List ℕ) (f : List Float) (g : List ℕ) (k : List Float) (rise drop : List ℕ)
     → (x, u, f, g, k, rise, drop) ≡ asRole receive role (λ y. (y, s .bu, s .bf, s .gu, s .gf, r .rise, r .drop)) (receivedOn s r)
-    → with-run s u f g k ≡ leftBy s (runCalls role s r)
+    → AsList s role r x u f g k rise drop
+
+-- two runs with the same arguments, "apart from the lent stores and what the outputs held before"
+pub record SameArguments (r o : Run) : Type 0 where
+  pub hold : r .hold ≡ o .hold
+  pub db : r .db ≡ o .db
+  pub power : r .power ≡ o .power
+  pub rise : length (r .rise) ≡ length (o .rise)
+  pub drop : length (r .drop) ≡ length (o .drop)
+
+-- demand 3's further lists may hold runs: two sets as it has them, each after a list of its own, give the same run the same answer, and it is the same
+-- calls to both, with the same arguments
+abbrev pub SameRuns : Type 0
+SameRuns = (k : Making) (p q : Lent) → Made k p → Made k q → (xs ys : List Call)
+    → bankUpdates (made k p) xs % decimationHops ≡ bankUpdates (made k q) ys % decimationHops
+    → (role : ℕ) (r o : Run) → SameArguments r o
+    → let s = leftBy (made k p) xs in
+    let t = leftBy (made k q) ys in
+    (refusalOn s r ≡ refusalOn t o) × (map arguments (runCalls role s r) ≡ map arguments (runCalls role t o))

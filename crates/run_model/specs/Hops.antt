@@ -1,14 +1,15 @@
 -- One hop of a run: what a bank and a gate show that refuse none of its two calls, and what these leave.
 use mathlib.Core.Path.{_≡_}
-use mathlib.Core.Bool.{Bool, false, _&&_}
+use mathlib.Core.Bool.{Bool, false, cond, _&&_}
 use mathlib.Core.List.{List}
 use Prim.Native.Nat.{ℕ}
 use lib.Dec.{eqb}
 use lib.ListN.{length, getD}
 use lib.Ieee.{Float}
 use Rattle.model.specs.Refusals.{bankRefusal, garbled}
-use Rattle.model.specs.GateCalls.{gateRefusal}
-use Rattle.model.specs.Demand3.{Stores, left, risesOf}
+use Rattle.model.specs.GateCalls.{GateHop, gateRefusal}
+use Rattle.model.specs.Demand3.{Stores, Call, askedBy, gate, hold, left, risesOf}
+use Rattle.roles.specs.Rights.{technician}
 use Rattle.run_model.specs.Runs.{RunHop, bankCall, gateCall, dropsOf, alone}
 
 -- a bank and a gate of n channels that no call refuses
@@ -33,6 +34,14 @@ pub record HopFits (s : Stores) (h : RunHop) : Type 0 where
   pub fit : Fit (getD (s .gu) 0 0) s
   pub long : Long (getD (s .gu) 0 0) h
   pub clear : garbledHop (getD (s .gu) 0 0) s h ≡ false
+
+-- what the gate is told of it
+abbrev pub hopOf : RunHop → GateHop
+hopOf h = record { db = h .db; power = h .power }
+
+-- the gate's call, by whether the hop is held
+abbrev pub gateBy : RunHop → Bool → Call
+gateBy h b = askedBy technician (cond b (hold false (h .rise) (h .drop)) (gate false (hopOf h) (h .rise) (h .drop)))
 
 -- what its two calls leave, and the marks of the second
 abbrev pub hopLeft : Stores → RunHop → Stores

@@ -1,5 +1,5 @@
 -- The rungs' values as a product: each power of ten times each root, row by row. So each power and each root is worked out once while the whole
--- table is computed, and one computation of it stays within antt's limit of steps. Assumes nothing.
+-- table is computed, and one computation of it stays within the prover's limit of steps. Assumes nothing.
 use mathlib.Core.Path.{_≡_, refl, ap, ap₂, _∙_}
 use mathlib.Core.List.{List, [], _∷_, _++_, map}
 use Prim.Native.Nat.{ℕ, zero, suc, _+_, _*_, _/_, _%_, _<_}

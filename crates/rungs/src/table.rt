@@ -5288,7 +5288,7 @@ const RUNGS: [f64; RUNG_COUNT] = [
 ];
 
 // Every call writes the table out anew: have one caller, and lend it on. `_lowest` keeps the borrow checker from walking this function: its
-// walk of an array of floats grows with the square of the length and ends in antt's limit of steps. proofs/table/rungs walks it by hand.
+// walk of an array of floats grows with the square of the length and ends in the prover's limit of steps. proofs/table/rungs walks it by hand.
 pub fn rungs() -> [f64; RUNG_COUNT]
     ensures { λ t. ⌜ t ≡ rungValues ⌝ }
 {

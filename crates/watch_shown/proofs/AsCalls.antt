@@ -1,6 +1,6 @@
 -- What is shown at a hop of a run is as the single calls leave it. Assumes nothing.
 use mathlib.Core.Path.{_≡_, refl, sym, ap, subst, _∙_}
-use mathlib.Core.Bool.{Bool, true, false, cond}
+use mathlib.Core.Bool.{Bool, true, false}
 use mathlib.Core.List.{List}
 use Prim.Native.Nat.{ℕ, zero, suc}
 use borrow.Author.Tests.{eqb-true, eqb-false, not-true, not-false}
@@ -10,23 +10,19 @@ use Rattle.laws.specs.Lists.{tab}
 use Rattle.model.specs.Numbers.{f0}
 use Rattle.model.specs.Bank.{FloorBank, Hop, hop, stepAt, fastStep, bankStep}
 use Rattle.model.specs.Stores.{bankOf}
-use Rattle.model.specs.Refusals.{updateRefusal}
 use Rattle.model.specs.Gate.{Gate, dbAfter, gateStep, refresh, updateStep, holdAt, holdStep}
-use Rattle.model.specs.GateStores.{gateOf}
 use Rattle.model.specs.GoodGate.{GoodGate}
-use Rattle.model.specs.GateCalls.{GateHop, gateUpdateRefusal, holdRefusal, gateLeaves, gateUpdate, gateHold}
-use Rattle.model.specs.Demand3.{Stores, Call, askedBy, bank, gate, hold, does, step, left, bankIn}
+use Rattle.model.specs.GateCalls.{gateUpdateRefusal, holdRefusal, gateLeaves, gateUpdate, gateHold}
+use Rattle.model.specs.Demand3.{Stores, bank, gate, hold, does, step, left, bankIn}
 use Rattle.model.specs.Sets.{gateIn}
-use Rattle.model.proofs.GoodBanks.{ready}
-use Rattle.model.proofs.GoodGates.{gate-ready, n-of}
-use Rattle.model.proofs.Carrying.{leaves-bank, answer-alone}
+use Rattle.model.proofs.GoodGates.{gate-ready}
 use Rattle.model.proofs.Calls.{gateAfter, leaves-gate, leaves-hold}
-use Rattle.roles.specs.Rights.{technician, asRole}
+use Rattle.roles.specs.Rights.{asRole}
 use Rattle.run_model.specs.Runs.{RunHop, isHeld, bankCall, gateCall}
-use Rattle.run_model.specs.Hops.{Fit, Long, hopLeft}
-use Rattle.run_model.proofs.Taken.{none, bank-fits, update-none, hold-none, gate-bank}
+use Rattle.run_model.specs.Hops.{Fit, Long, hopOf, gateBy, hopLeft}
+use Rattle.run_model.proofs.Taken.{bank-is, bank-fits, update-none, hold-none, gate-bank}
 use Rattle.watch_batch.specs.Batch.{smoothAfter, startedAfter}
-use Rattle.watch_shown.specs.AsCalls.{Taken, Smoothed, SmoothedAsCalls, SameFloors, FloorsStay}
+use Rattle.watch_shown.specs.AsCalls.{Smoothed, SmoothedAsCalls, SameFloors, FloorsStay}
 
 -- ---- the gate's call, on a bank and a gate that pass
 
@@ -58,31 +54,22 @@ kept-by g b h z =
     record { smooth = k .0 ∙ e .0; started = k .1 ∙ e .1 }
 
 module _ (n : ℕ) (s : Stores) (v : Fit n s) (h : RunHop) (l : Long n h) where
-  abbrev hopOf : GateHop
-  hopOf = record { db = h .db; power = h .power }
-
-  abbrev updateCall : Call
-  updateCall = askedBy technician (gate false hopOf (h .rise) (h .drop))
-
-  abbrev holdCall : Call
-  holdCall = askedBy technician (hold false (h .rise) (h .drop))
-
   good : GoodGate (gateIn s)
   good = gate-ready (s .gu) (s .gf) (v .gate-passes) .good
 
-  update-is : gateIn (left s updateCall) ≡ updateStep (gateIn s) (bankIn s) (h .db) (h .power)
+  update-is : gateIn (left s (gateBy h false)) ≡ updateStep (gateIn s) (bankIn s) (h .db) (h .power)
   unfolding step does asRole gateUpdate
   update-is =
       let r = gateUpdateRefusal (s .bu) (s .bf) (s .gu) (s .gf) (length (h .db)) (length (h .power)) (length (h .rise)) (length (h .drop)) in
-      leaves-gate (s .gu) (s .gf) (bankIn s) false hopOf 0 0 (v .gate-passes) good r .1
+      leaves-gate (s .gu) (s .gf) (bankIn s) false (hopOf h) 0 0 (v .gate-passes) good r .1
       ∙ go r (update-none n s v h l)
     where
       go : (r : ℕ) → r ≡ 0
-          → gateAfter (gateLeaves r (updateStep (gateIn s) (bankIn s) (h .db) (h .power)) (s .gu) (s .gf) .0) (gateIn s) (bankIn s) (gate false hopOf 0 0)
+          → gateAfter (gateLeaves r (updateStep (gateIn s) (bankIn s) (h .db) (h .power)) (s .gu) (s .gf) .0) (gateIn s) (bankIn s) (gate false (hopOf h) 0 0)
           ≡ updateStep (gateIn s) (bankIn s) (h .db) (h .power)
-      go r z = ap (λ (x : ℕ). gateAfter (gateLeaves x (updateStep (gateIn s) (bankIn s) (h .db) (h .power)) (s .gu) (s .gf) .0) (gateIn s) (bankIn s) (gate false hopOf 0 0)) z
+      go r z = ap (λ (x : ℕ). gateAfter (gateLeaves x (updateStep (gateIn s) (bankIn s) (h .db) (h .power)) (s .gu) (s .gf) .0) (gateIn s) (bankIn s) (gate false (hopOf h) 0 0)) z
 
-  hold-is : gateIn (left s holdCall) ≡ holdStep (gateIn s) (bankIn s)
+  hold-is : gateIn (left s (gateBy h true)) ≡ holdStep (gateIn s) (bankIn s)
   unfolding step does asRole gateHold
   hold-is =
       let r = holdRefusal (s .bu) (s .bf) (s .gu) (s .gf) (length (h .rise)) (length (h .drop)) in
@@ -93,7 +80,7 @@ module _ (n : ℕ) (s : Stores) (v : Fit n s) (h : RunHop) (l : Long n h) where
   gate-smooths = go (isHeld h) refl
     where
       go : (b : Bool) → isHeld h ≡ b
-          → Smoothed (gateIn s) h (gateIn (left s (askedBy technician (cond b (hold false (h .rise) (h .drop)) (gate false hopOf (h .rise) (h .drop))))))
+          → Smoothed (gateIn s) h (gateIn (left s (gateBy h b)))
       go false e = subst (Smoothed (gateIn s) h) (sym update-is) (smoothed-by (gateIn s) (bankIn s) h good (eqb-true (h .hold) 0 (not-false _ e)))
       go true e = subst (Smoothed (gateIn s) h) (sym hold-is) (kept-by (gateIn s) (bankIn s) h (eqb-false (h .hold) 0 (not-true _ e)))
 
@@ -108,14 +95,6 @@ smoothed-as-calls n s h t =
     (gate-smooths n (left s (bankCall h)) (bank-fits n s (t .fit) h (t .long) (t .clear)) h (t .long))
 
 -- ---- the floors
-
-bank-is : (n : ℕ) (s : Stores) (h : RunHop) → Taken n s h → bankIn (left s (bankCall h)) ≡ bankStep (bankIn s) (hop (isHeld h) (h .db) (h .power))
-unfolding step does asRole
-bank-is n s h t =
-    let x = hop (isHeld h) (h .db) (h .power) in
-    let b = leaves-bank (s .bu) (s .bf) (s .wu) (s .wf) x false (t .fit .bank-passes) (ready (s .bu) (s .bf) (t .fit .bank-passes) .good) in
-    let e = answer-alone (s .bu) (s .bf) (s .wu) (s .wf) x ∙ none n s (t .fit) h (t .long) (t .clear) in
-    b .1 ∙ rw e
 
 fast : (p : ℕ) (b : FloorBank) (x : Hop) → (p ≡ 0 → ⊥) → SameFloors b (stepAt p b x)
 unfolding fastStep
@@ -134,5 +113,5 @@ pub floors-stay : FloorsStay
 floors-stay n s h t z =
     let k = left s (bankCall h) in
     let q = gate-bank n k (bank-fits n s (t .fit) h (t .long) (t .clear)) h (t .long) in
-    let same : bankIn (hopLeft s h) ≡ bankStep (bankIn s) (hop (isHeld h) (h .db) (h .power)) = (λ i. bankOf (q .0 i) (q .1 i)) ∙ bank-is n s h t in
+    let same : bankIn (hopLeft s h) ≡ bankStep (bankIn s) (hop (isHeld h) (h .db) (h .power)) = (λ i. bankOf (q .0 i) (q .1 i)) ∙ bank-is n s (t .fit) h (t .long) (t .clear) .1 in
     subst (SameFloors (bankIn s)) (sym same) (fast-step (bankIn s) (hop (isHeld h) (h .db) (h .power)) (λ e. z (sym (phase-of (s .bu) (s .bf)) ∙ e)))

@@ -2,20 +2,19 @@
 use mathlib.Core.Path.{_≡_, refl, sym, ap, ap₂, _∙_}
 use mathlib.Core.Bool.{false}
 use mathlib.Core.List.{List, [], _∷_}
-use Prim.Native.Nat.{ℕ, zero, suc, _+_, _%_, _≤_, _<_, min}
+use Prim.Native.Nat.{ℕ, zero, suc, _+_, _%_, _≤_}
 use native.Mathlib.Omega.{arith}
 use lib.ListN.{length, getD, take, length-take}
 use lib.Ieee.{Float}
-use Rattle.model.specs.Layout.{decimationHops}
 use Rattle.model.specs.Bank.{FloorBank}
 use Rattle.model.specs.Demand3.{Stores, bankIn}
 use Rattle.model.specs.Sets.{gateIn}
-use Rattle.run_model.specs.Runs.{Run, RunHop, hopsFrom, garbledRun}
+use Rattle.run_model.specs.Runs.{Run, RunHop, garbledRun}
 use Rattle.run_model.specs.Hops.{Fit, hopLeft}
 use Rattle.run_model.specs.Claims.{refusalOn}
 use Rattle.run_model.proofs.Taken.{fit-of}
 use Rattle.run_model.proofs.Runs.{AllLong, hops-long, hop-fits, hop-phase, first-clear, rest-clear}
-use Rattle.run_model.proofs.Claims.{passes, run-long}
+use Rattle.run_model.proofs.Claims.{passes, run-long, hops-many}
 use Rattle.watch_shown.specs.AsCalls.{Taken, SameFloors, hopsIn, after, smoothedBy, ShownSmoothed, ShownFloors}
 use Rattle.watch_shown.proofs.AsCalls.{smoothed-as-calls, floors-stay}
 
@@ -115,13 +114,8 @@ later n j (k ∷ hs) s h t a le =
     (back (bankIn u) (bankIn (after u (take j (k ∷ hs)))) (stay n (take j (k ∷ hs)) u (some-taken n j (k ∷ hs) u a) z (omega (arith, p, le, few))))
     (stay n (k ∷ hs) u a z (omega (arith, p, le)))
 
--- as many hops as holds
-many : (n : ℕ) (hold : List ℕ) (db power : List Float) (rise drop : List ℕ) → length (hopsFrom n hold db power rise drop) ≡ length hold
-many n [] db power rise drop = refl
-many n (x ∷ xs) db power rise drop = ap suc (many n xs _ _ _ _)
-
 pub shown-floors : ShownFloors
-shown-floors s r e le i one = go i (hopsIn s r) (run-taken s r e) (omega (arith, le, many (getD (s .gu) 0 0) (r .hold) (r .db) (r .power) (r .rise) (r .drop))) one
+shown-floors s r e le i one = go i (hopsIn s r) (run-taken s r e) (omega (arith, le, hops-many (getD (s .gu) 0 0) (r .hold) (r .db) (r .power) (r .rise) (r .drop))) one
   where
     go : (i : ℕ) (hs : List RunHop) → AllTaken (getD (s .gu) 0 0) s hs → getD (s .bu) 1 0 + length hs ≤ 15 → 1 ≤ i → SameFloors (bankIn (after s (take i hs))) (bankIn (after s hs))
     go zero hs t le one = absurd (let z : ⊥ = omega (arith, one) in z)
