@@ -83,8 +83,8 @@ pub record SameArguments (r o : Run) : Type 0 where
   pub rise : length (r .rise) ≡ length (o .rise)
   pub drop : length (r .drop) ≡ length (o .drop)
 
--- demand 3's further lists may hold runs: two sets as it has them, each after a list of its own, give the same run the same answer, and it is the same
--- calls to both, with the same arguments
+-- two sets as demand 3 has them, each after a list of its own, give the run that comes next the same answer, and it is the same calls to both, with
+-- the same arguments
 abbrev pub SameRuns : Type 0
 SameRuns = (k : Making) (p q : Lent) → Made k p → Made k q → (xs ys : List Call)
     → bankUpdates (made k p) xs % decimationHops ≡ bankUpdates (made k q) ys % decimationHops
