@@ -5,22 +5,22 @@ use borrow.Author.Rules.{rules}
 use Rattle.watch_numbers.proofs.channel_of.Statement.{statement}
 use Rattle.watch_numbers.proofs.channel_of.Tie as tie
 
-returns : tie.Need-returns
+returns : tie.Need-returns-then-word-eq0
 unfolding channel_of
-returns c = simp c.if1.true
+returns c = simp c.if-word-eq0.true
 
-number-of-requires : tie.Need-number-of-requires
+number-of-requires : tie.Need-number_of-v-requires
 number-of-requires c κs = search rules
 
-returns-2 : tie.Need-returns-2
+returns-2 : tie.Need-returns-then-v-gt-MOST
 unfolding channel_of
 returns-2 c = let n = c.before in
-    simp (ne_eqb _ _ n.before.if1.false, ← n.number_of_lem.ensures, lt-leb _ _ c.if2.true)
+    simp (ne_eqb _ _ n.before.if-word-eq0.false, ← n.number_of_lem.ensures, lt-leb _ _ c.if-v-gt-MOST.true)
 
-returns-3 : tie.Need-returns-3
+returns-3 : tie.Need-returns
 unfolding channel_of
 returns-3 c = let n = c.before in
-    simp (ne_eqb _ _ n.before.if1.false, ← n.number_of_lem.ensures, le-leb _ _ c.if2.false)
+    simp (ne_eqb _ _ n.before.if-word-eq0.false, ← n.number_of_lem.ensures, le-leb _ _ c.if-v-gt-MOST.false)
 
-pub channel-of-spec : {M : Type 1} → statement M
-channel-of-spec = tie.close (tie.spec returns number-of-requires returns-2 returns-3)
+pub channel_of_spec : {M : Type 1} → statement M
+channel_of_spec = tie.close (tie.spec returns number-of-requires returns-2 returns-3)
