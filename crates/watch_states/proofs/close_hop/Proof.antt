@@ -18,39 +18,39 @@ module _ (slow : Bool) (alive hops events rise drop a h e : List ℕ) (x : a ≡
   kept : slow ≡ false → e ≡ events → (a, h, e) ≡ hop_closed slow alive hops events rise drop
   kept s z = closed (z ∙ rw s refl)
 
-step-states-requires : tie.Need-step-states-requires
+step-states-requires : tie.Need-step_states-requires
 step-states-requires c κs = search rules
 
-count-set-requires : tie.Need-count-set-requires
+count-set-requires : tie.Need-count_set-requires
 count-set-requires c κs = search rules
 
 clear-requires : tie.Need-clear-requires
 clear-requires c κs = search rules
 
-same_length : tie.Need-same-length
+same_length : tie.Need-shape_of-alive-then-is_slow
 same_length c = search rules
 
-same-length-2 : tie.Need-same-length-2
+same-length-2 : tie.Need-shape_of-alive_hops-then-is_slow
 same-length-2 c = search rules
 
-same-length-3 : tie.Need-same-length-3
+same-length-3 : tie.Need-shape_of-events
 same-length-3 c = search rules
 
-returns : tie.Need-returns
+returns : tie.Need-returns-then-is_slow
 returns c =
-    told _ _ _ _ _ _ _ _ _ c.before.before.before.before.before.before.before.before.before.before.before.before.step-states.ensures c.before.before.before.before.before.before.before.count_set.ensures c.before.before.before.before.if1.true c.before.before.clear.ensures
+    told _ _ _ _ _ _ _ _ _ c.before.before.before.before.before.before.before.before.before.before.before.before.step_states.ensures c.before.before.before.before.before.before.before.count_set.ensures c.before.before.before.before.if-is_slow.true c.before.before.clear.ensures
 
-same-length-4 : tie.Need-same-length-4
+same-length-4 : tie.Need-shape_of-alive-else-is_slow
 same-length-4 c = search rules
 
-same-length-5 : tie.Need-same-length-5
+same-length-5 : tie.Need-shape_of-alive_hops-else-is_slow
 same-length-5 c = search rules
 
-returns-2 : tie.Need-returns-2
-returns-2 c = kept _ _ _ _ _ _ _ _ _ c.before.before.before.before.before.before.before.before.step-states.ensures c.before.before.before.count_set.ensures c.if1.false refl
+returns-2 : tie.Need-returns-else-is_slow
+returns-2 c = kept _ _ _ _ _ _ _ _ _ c.before.before.before.before.before.before.before.before.step_states.ensures c.before.before.before.count_set.ensures c.if-is_slow.false refl
 
-pub close-hop-spec : {M : Type 1} → statement M
-close-hop-spec =
+pub close_hop_spec : {M : Type 1} → statement M
+close_hop_spec =
     tie.close
     (tie.spec
     step-states-requires

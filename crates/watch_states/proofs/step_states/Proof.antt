@@ -8,51 +8,51 @@ use Rattle.watch_states.proofs.step_states.Tie as tie
 abbrev state_of : List ℕ → List ℕ → List ℕ → ℕ → ℕ
 state_of alive rise drop k = one (state_after (is_set alive k) (is_set rise k) (is_set drop k))
 
-abbrev invariant-loop : tie.invariant-loop
+abbrev invariant-loop : tie.invariant-loop-k
 invariant-loop alive₀ rise drop k₀ k-end alive k = (k-end ≡ length alive₀) × Filled alive₀ (state_of alive₀ rise drop) k alive
 
-abbrev decreases-loop : tie.decreases-loop
+abbrev decreases-loop : tie.decreases-loop-k
 decreases-loop alive₀ rise drop k₀ k-end alive k = k-end - k
 
-loop-holds : tie.Need-loop-init invariant-loop decreases-loop
+loop-holds : tie.Need-loop-k-init invariant-loop decreases-loop
 loop-holds c = (refl, begins _ _)
 
-slice-read-state-after : tie.Need-slice-read-state-after invariant-loop decreases-loop
+slice-read-state-after : tie.Need-bounds-alive-k invariant-loop decreases-loop
 slice-read-state-after c = search rules
 
-is-set-requires : tie.Need-is-set-requires invariant-loop decreases-loop
+is-set-requires : tie.Need-is_set-requires invariant-loop decreases-loop
 is-set-requires c κs = search rules
 
-is-set-requires-2 : tie.Need-is-set-requires-2 invariant-loop decreases-loop
+is-set-requires-2 : tie.Need-is_set-requires-in-loop-k invariant-loop decreases-loop
 is-set-requires-2 c κs = search rules
 
-state-after-requires : tie.Need-state-after-requires invariant-loop decreases-loop
+state-after-requires : tie.Need-state_after-requires invariant-loop decreases-loop
 state-after-requires c κs = search rules
 
 bit-requires : tie.Need-bit-requires invariant-loop decreases-loop
 bit-requires c κs = search rules
 
-slice-write-alive : tie.Need-slice-write-alive invariant-loop decreases-loop
+slice-write-alive : tie.Need-bounds-alive-k-in-loop-k invariant-loop decreases-loop
 slice-write-alive c = search rules
 
-add-k : tie.Need-overflow-add-k invariant-loop decreases-loop
+add-k : tie.Need-overflow_step-k invariant-loop decreases-loop
 add-k c = search rules
 
-loop-less : tie.Need-loop-smaller invariant-loop decreases-loop
+loop-less : tie.Need-loop-k-smaller invariant-loop decreases-loop
 loop-less c = search rules
 
-loop-again : tie.Need-loop-preserved invariant-loop decreases-loop
+loop-again : tie.Need-loop-k-preserved invariant-loop decreases-loop
 loop-again c =
     let l = c.before.before.before.before.before.before in
     let s = l.before.before.before.before in
     let e : ℕ → ℕ = state_of s.args.alive.now s.args.rise.now s.args.drop.now in
-    let now-k = unwritten s.args.alive.now e l.loop.k l.loop.alive 0 0 l.loop.invariant.1 (omega arith) in (
-      l.loop.invariant.0,
-      turns s.args.alive.now e l.loop.k l.loop.alive c.bit.result l.loop.invariant.1 (omega arith) (c.bit.ensures
-          ∙ ap one (c.before.state-after.ensures ∙ (λ i. state_after (eqb (now-k i) 1) (c.before.before.before.is_set.ensures i) (c.before.before.is-set2.ensures i)))),
+    let now-k = unwritten s.args.alive.now e l.loop-k.k l.loop-k.alive 0 0 l.loop-k.invariant.1 (omega arith) in (
+      l.loop-k.invariant.0,
+      turns s.args.alive.now e l.loop-k.k l.loop-k.alive c.bit.result l.loop-k.invariant.1 (omega arith) (c.bit.ensures
+          ∙ ap one (c.before.state_after.ensures ∙ (λ i. state_after (eqb (now-k i) 1) (c.before.before.before.is_set.ensures i) (c.before.before.is_set-in-loop-k.ensures i)))),
     )
 
-same_length : tie.Need-same-length invariant-loop decreases-loop
+same_length : tie.Need-shape_of-alive invariant-loop decreases-loop
 same_length c = search rules
 
 returns : tie.Need-returns invariant-loop decreases-loop
@@ -60,10 +60,10 @@ unfolding states_after
 returns c =
     let l = c.before in
     let s = l.before.before.before.before in
-    done s.args.alive.now (state_of s.args.alive.now s.args.rise.now s.args.drop.now) l.loop.k l.loop.alive l.loop.invariant.1 (omega arith)
+    done s.args.alive.now (state_of s.args.alive.now s.args.rise.now s.args.drop.now) l.loop-k.k l.loop-k.alive l.loop-k.invariant.1 (omega arith)
 
-pub step-states-spec : {M : Type 1} → statement M
-step-states-spec =
+pub step_states_spec : {M : Type 1} → statement M
+step_states_spec =
     tie.close
     (tie.spec
     invariant-loop
