@@ -3,11 +3,11 @@ use borrow.Author.Tests.{le-leb, lt-leb}
 use Rattle.roles.proofs.may.Statement.{statement}
 use Rattle.roles.proofs.may.Tie as tie
 
-returns : tie.Need-returns
-returns c = simp (lt-leb _ _ c.if1.true)
+returns : tie.Need-returns-then-role-least
+returns c = simp (lt-leb _ _ c.if-role-least.true)
 
-returns-2 : tie.Need-returns-2
-returns-2 c = simp (le-leb _ _ c.if1.false)
+returns-2 : tie.Need-returns
+returns-2 c = simp (le-leb _ _ c.if-role-least.false)
 
-pub may-spec : {M : Type 1} → statement M
-may-spec = tie.close (tie.spec returns returns-2)
+pub may_spec : {M : Type 1} → statement M
+may_spec = tie.close (tie.spec returns returns-2)
