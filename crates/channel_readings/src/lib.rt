@@ -10,7 +10,7 @@ use model::layout::{BLOCK_CHANNELS, BLOCK_REST, CHANNEL_LEN, RING_LEN};
 
 // The numbers that a channel's effective and rise floor come from: its usable floor, its block's floor, its entries since the leading
 // silence, and its block's seed pushes and seed sum.
-#[derive(Drop)]
+#[derive(Clone, Copy)]
 pub struct Sources {
     pub usable: f64,
     pub block_floor: f64,

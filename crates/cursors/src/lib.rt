@@ -3,7 +3,7 @@ ghost use Rattle.std.specs.Prelude.{◌≡◌, ◌*◌, ◌<◌};
 ghost use Rattle.cursors.specs.Cursors.{CursorFits, advanced_of, middle_from};
 
 // Where the windows of one length stand: its length, the place of the next sample and how many places are filled.
-#[derive(Drop)]
+#[derive(Clone, Copy)]
 pub struct Cursor {
     pub m: usize,
     pub at: usize,
@@ -11,7 +11,7 @@ pub struct Cursor {
 }
 
 // A cursor handed back with the place of its middle sample.
-#[derive(Drop)]
+#[derive(Clone, Copy)]
 pub struct Middle {
     pub cursor: Cursor,
     pub place: usize,

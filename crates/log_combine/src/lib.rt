@@ -20,14 +20,14 @@ use combine_model::HopCount;
 use log_model::{LogLength, LogRead};
 
 // What the first pass says: both logs pass, with so many hops, and the result has room; or not.
-#[derive(Drop)]
+#[derive(Clone, Copy)]
 pub enum Fit {
     Fits(usize),
     Not,
 }
 
 // Where the next hop begins in the first log and in the second.
-#[derive(Drop)]
+#[derive(Clone, Copy)]
 pub struct Places {
     pub first: usize,
     pub second: usize,

@@ -3,7 +3,7 @@ ghost use Rattle.std.specs.Prelude.{◌≡◌};
 ghost use Rattle.origins.specs.Origins.{effective_number, effective_db, rise_number, rise_db};
 
 // The rule that yields the effective floor.
-#[derive(Drop)]
+#[derive(Clone, Copy)]
 pub enum EffectiveOrigin {
     OwnQuartile(f64),
     BlockPlus3(f64),
@@ -11,7 +11,7 @@ pub enum EffectiveOrigin {
 }
 
 // The rule that yields the rise floor.
-#[derive(Drop)]
+#[derive(Clone, Copy)]
 pub enum RiseOrigin {
     EffectiveFloor(f64),
     Block(f64),
@@ -19,14 +19,14 @@ pub enum RiseOrigin {
 }
 
 // Where the two floors of one channel come from.
-#[derive(Drop)]
+#[derive(Clone, Copy)]
 pub struct Explanation {
     pub effective: EffectiveOrigin,
     pub rise: RiseOrigin,
 }
 
 // The explanation of a channel, or the number of a refusal.
-#[derive(Drop)]
+#[derive(Clone, Copy)]
 pub enum Explained {
     By(Explanation),
     Refused(u16),

@@ -12,7 +12,7 @@ use model::layout::{COUNTS, FILLED, HIST_MIN_DB, LEAD};
 const STRETCH: usize = 32;
 
 // Where the stretch begins in which a rank is reached, and the entries in the bins before it.
-#[derive(Drop)]
+#[derive(Clone, Copy)]
 struct Reached {
     bin: usize,
     passed: usize,

@@ -37,7 +37,7 @@ pub fn store_f_len(n: u8) -> usize
 }
 
 // hop is where the hop of the last single bank update stands; n is the bank's; floats is how long the gate's f64 store is.
-#[derive(Drop)]
+#[derive(Clone, Copy)]
 pub struct Replay {
     pub at: usize,
     pub hop: usize,

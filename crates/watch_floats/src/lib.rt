@@ -8,7 +8,7 @@ ghost use Rattle.watch_floats.specs.Floats.{sized as floats_sized};
 use watch_text::{LINE, glyph, missing, put_hundredths, put_right, put_text};
 
 // How a float is shown: in hundredths of its size, or by a word; true: below zero.
-#[derive(Drop)]
+#[derive(Clone, Copy)]
 pub enum Shown {
     NotANumber,
     Number(bool, u64),
@@ -61,7 +61,7 @@ fn put_far(line: &mut [u8; LINE], at: usize, is_below: bool, width: usize) -> us
 }
 
 // A power as a number from 1 to 10 and a power of ten.
-#[derive(Drop)]
+#[derive(Clone, Copy)]
 pub struct Scaled {
     pub x: f64,
     pub tens: u64,

@@ -8,7 +8,7 @@ ghost use Rattle.watch_hear.specs.Heard.{answer_of, heard_of};
 use watch_recording::Step;
 
 // What became of a hop.
-#[derive(Drop)]
+#[derive(Clone, Copy)]
 pub enum Heard {
     // The recording ends here.
     End,

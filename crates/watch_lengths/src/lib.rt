@@ -3,7 +3,7 @@ ghost use Rattle.std.specs.Prelude.{◌≡◌, ◌<◌};
 ghost use Rattle.watch_lengths.specs.Lengths.{begun as lengths_begun, wrong as lengths_wrong, ended, digit, step, lengths_of};
 
 // A list of lengths so far: how many are whole, and the one that is being read.
-#[derive(Drop)]
+#[derive(Clone, Copy)]
 pub struct Listed {
     pub count: usize,
     pub number: u16,

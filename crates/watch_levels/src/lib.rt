@@ -7,7 +7,7 @@ ghost use Rattle.watch_levels.specs.Levels.{digit as levels_digit, step, decimal
 pub const ABSENT: i32 = 65535;
 
 // What a word has said so far, read as a number in thousandths.
-#[derive(Drop)]
+#[derive(Clone, Copy)]
 pub struct Decimal {
     // What the next digit is worth: 1,000 before the point, then 100, 10, 1 and nothing.
     pub unit: u16,
@@ -130,14 +130,14 @@ fn decimal_step(d: Decimal, b: u8) -> Decimal
 }
 
 // A level of so many eighths of a dB, 800 at most, or an absent one.
-#[derive(Drop)]
+#[derive(Clone, Copy)]
 pub struct Level {
     pub is_below: bool,
     pub eighths: u16,
     pub is_absent: bool,
 }
 
-#[derive(Drop)]
+#[derive(Clone, Copy)]
 pub enum LevelWord {
     Is(Level),
     Wrong,

@@ -12,7 +12,7 @@ pub const MOST: usize = 512;
 pub const MOST_HOP_BYTES: usize = 6145;
 
 // What stands where a hop is due.
-#[derive(Drop)]
+#[derive(Clone, Copy)]
 pub enum Step {
     // Nothing: the recording ends here.
     End,
@@ -40,7 +40,7 @@ fn wide(x: u16) -> usize
 }
 
 // Where a hop stands: its number and its first byte, from 0; and whether hops are still read.
-#[derive(Drop)]
+#[derive(Clone, Copy)]
 pub struct Place {
     pub hop: u64,
     pub byte: u64,

@@ -248,7 +248,7 @@ fn take_batch(
 }
 
 // What became of a batch.
-#[derive(Drop)]
+#[derive(Clone, Copy)]
 enum Took {
     // So many of its hops were taken: all, or the first.
     Hops(usize),

@@ -13,7 +13,7 @@ use watch_levels::{Level, LevelWord, above, absent, level_of};
 use watch_numbers::{channel_of, span_of};
 
 // What a word can be.
-#[derive(Drop)]
+#[derive(Clone, Copy)]
 pub enum Word {
     Help,
     Csv,
@@ -125,7 +125,7 @@ pub const BAD_CHANNEL: u8 = 7;
 
 pub const BAD_SPAN: u8 = 8;
 
-#[derive(Drop)]
+#[derive(Clone, Copy)]
 pub struct Settings {
     pub on: Level,
     pub off: Level,

@@ -15,12 +15,12 @@ number-of-requires c κs = search rules
 returns-2 : tie.Need-returns-then-v-gt-MOST
 unfolding channel_of
 returns-2 c = let n = c.before in
-    simp (ne_eqb _ _ n.before.if-word-eq0.false, ← n.number_of_lem.ensures, lt-leb _ _ c.if-v-gt-MOST.true)
+    simp (ne_eqb _ _ n.before.if-word-eq0.false, ← n.number_of-v.ensures, lt-leb _ _ c.if-v-gt-MOST.true)
 
 returns-3 : tie.Need-returns
 unfolding channel_of
 returns-3 c = let n = c.before in
-    simp (ne_eqb _ _ n.before.if-word-eq0.false, ← n.number_of_lem.ensures, le-leb _ _ c.if-v-gt-MOST.false)
+    simp (ne_eqb _ _ n.before.if-word-eq0.false, ← n.number_of-v.ensures, le-leb _ _ c.if-v-gt-MOST.false)
 
 pub channel_of_spec : {M : Type 1} → statement M
 channel_of_spec = tie.close (tie.spec returns number-of-requires returns-2 returns-3)
