@@ -5,12 +5,12 @@ use Rattle.watch_text.proofs.has_sign.Reads as reads
 use Rattle.watch_text.proofs.has_sign.Lts as lts
 
 -- src/lib.rt:110:9
-returns : tie.Need-returns
-returns c = simp c.if1.true
+returns : tie.Need-returns-then-is_below
+returns c = simp c.if-is_below.true
 
 -- src/lib.rt:106:1
-returns-2 : tie.Need-returns-2
+returns-2 : tie.Need-returns
 returns-2 c = search rules
 
-pub has-sign-spec : {M : Type 1} → statement M
-has-sign-spec = tie.close (tie.spec returns returns-2)
+pub has_sign_spec : {M : Type 1} → statement M
+has_sign_spec = tie.close (tie.spec returns returns-2)

@@ -15,7 +15,7 @@ use Rattle.watch_text.proofs.put_text.Reads as put-text-reads
 use Rattle.watch_text.proofs.put_whole.Reads as put-whole-reads
 
 -- src/lib.rt:125:35
-has-sign-requires : tie.Need-has-sign-requires
+has-sign-requires : tie.Need-has_sign-requires
 has-sign-requires c κs = search rules
 
 -- src/lib.rt:125:67
@@ -23,7 +23,7 @@ missing-requires : tie.Need-missing-requires
 missing-requires c κs = search rules
 
 -- src/lib.rt:125:9
-put-whole-requires : tie.Need-put-whole-requires
+put-whole-requires : tie.Need-put_whole-end-requires
 put-whole-requires c κs = search rules
 
 -- src/lib.rt:126:33
@@ -35,11 +35,11 @@ glyph-requires-2 : tie.Need-glyph-requires-2
 glyph-requires-2 c κs = search rules
 
 -- src/lib.rt:126:25
-slice-aggregate-put-text : tie.Need-slice-aggregate-put-text
+slice-aggregate-put-text : tie.Need-slice_bounds-put_text-end
 slice-aggregate-put-text c = search rules
 
 -- src/lib.rt:126:5
-put-text-requires : tie.Need-put-text-requires
+put-text-requires : tie.Need-put_text-requires
 put-text-requires c κs = search rules
 
 -- src/lib.rt:116:1
@@ -47,12 +47,12 @@ returns : tie.Need-returns
 unfolding hundredths
 returns c =
     ended (c.before.before.before.before.before.before.before.before.before.args.line.now, c.before.before.before.before.before.before.before.before.before.args.at) _ _ c.before.before.before.before.before.before.before.before.before.args.width c.before.before.before.before.before.before.missing.result 3 _ _ _ c.before.before.before.before.before.before.missing.ensures refl
-    (c.before.before.before.before.before.put_whole.ensures ∙ ap (λ (b : Bool). put_all (c.before.before.before.before.before.before.before.before.before.args.line.now, c.before.before.before.before.before.before.before.before.before.args.at) (right c.before.before.before.before.before.before.missing.result (whole b (c.before.before.before.before.before.before.before.before.before.args.x / 100)))) c.before.before.before.before.before.before.before.has-sign.ensures)
-    c.put-text.ensures
-    (simp (c.before.before.before.glyph.ensures, c.before.before.glyph2.ensures))
+    (c.before.before.before.before.before.put_whole-end.ensures ∙ ap (λ (b : Bool). put_all (c.before.before.before.before.before.before.before.before.before.args.line.now, c.before.before.before.before.before.before.before.before.before.args.at) (right c.before.before.before.before.before.before.missing.result (whole b (c.before.before.before.before.before.before.before.before.before.args.x / 100)))) c.before.before.before.before.before.before.before.has_sign.ensures)
+    c.put_text.ensures
+    (simp (c.before.before.before.glyph.ensures, c.before.before.glyph-2.ensures))
 
-pub put-hundredths-spec : {M : Type 1} → statement M
-put-hundredths-spec =
+pub put_hundredths_spec : {M : Type 1} → statement M
+put_hundredths_spec =
     tie.close
     (tie.spec
     has-sign-requires

@@ -13,27 +13,27 @@ use Rattle.io.proofs.decimal.Reads as decimal-reads
 use Rattle.watch_text.proofs.put_right.Reads as put-right-reads
 
 -- src/lib.rt:68:9
-decimal-requires : tie.Need-decimal-requires
+decimal-requires : tie.Need-decimal-k-requires
 decimal-requires c κs = search rules
 
 -- src/lib.rt:69:25
-array-share-prefix-digits : tie.Need-array-share-prefix-digits
+array-share-prefix-digits : tie.Need-slice_bounds-digits-end
 array-share-prefix-digits c = search rules
 
 -- src/lib.rt:69:25
-slice-aggregate-put-right : tie.Need-slice-aggregate-put-right
+slice-aggregate-put-right : tie.Need-slice_bounds-put_right-end
 slice-aggregate-put-right c = search rules
 
 -- src/lib.rt:69:5
-put-right-requires : tie.Need-put-right-requires
+put-right-requires : tie.Need-put_right-requires
 put-right-requires c κs = search rules
 
 -- src/lib.rt:64:1
 returns : tie.Need-returns
-returns c = c.put_right.ensures ∙ ap (λ (l : List ℕ). put_all (c.before.before.before.before.before.args.line.now, c.before.before.before.before.before.args.at) (right c.before.before.before.before.before.args.width l)) (decimal-is c.before.before.before.decimal.result c.before.before.before.before.before.args.x _ (omega arith) c.before.before.before.decimal.ensures.1.0 c.before.before.before.decimal.ensures.1.1)
+returns c = c.put_right.ensures ∙ ap (λ (l : List ℕ). put_all (c.before.before.before.before.before.args.line.now, c.before.before.before.before.before.args.at) (right c.before.before.before.before.before.args.width l)) (decimal-is c.before.before.before.decimal-k.result c.before.before.before.before.before.args.x _ (omega arith) c.before.before.before.decimal-k.ensures.1.0 c.before.before.before.decimal-k.ensures.1.1)
 
-pub put-number-spec : {M : Type 1} → statement M
-put-number-spec =
+pub put_number_spec : {M : Type 1} → statement M
+put_number_spec =
     tie.close
     (tie.spec
     decimal-requires

@@ -15,12 +15,12 @@ millis-requires : tie.Need-millis-requires
 millis-requires c κs = search rules
 
 -- src/lib.rt:154:5
-put-thousandths-requires : tie.Need-put-thousandths-requires
+put-thousandths-requires : tie.Need-put_thousandths-requires
 put-thousandths-requires c κs = search rules
 
 -- src/lib.rt:151:1
 returns : tie.Need-returns
-returns c = c.put-thousandths.ensures ∙ ap (λ (x : ℕ). put_all (c.before.before.before.args.line.now, c.before.before.before.args.at) (right c.before.before.before.args.width (thousandths false x))) c.before.millis.ensures
+returns c = c.put_thousandths.ensures ∙ ap (λ (x : ℕ). put_all (c.before.before.before.args.line.now, c.before.before.before.args.at) (right c.before.before.before.args.width (thousandths false x))) c.before.millis.ensures
 
-pub put-seconds-spec : {M : Type 1} → statement M
-put-seconds-spec = tie.close (tie.spec millis-requires put-thousandths-requires returns)
+pub put_seconds_spec : {M : Type 1} → statement M
+put_seconds_spec = tie.close (tie.spec millis-requires put-thousandths-requires returns)

@@ -11,14 +11,14 @@ put-requires : tie.Need-put-requires
 put-requires c κs = search rules
 
 -- src/lib.rt:88:9
-returns : tie.Need-returns
+returns : tie.Need-returns-then-is_below
 unfolding put_all
-returns c = simp c.before.before.if1.true c.put.ensures
+returns c = simp c.before.before.if-is_below.true c.put.ensures
 
 -- src/lib.rt:84:1
-returns-2 : tie.Need-returns-2
+returns-2 : tie.Need-returns
 unfolding put_all
-returns-2 c = simp c.if1.false
+returns-2 c = simp c.if-is_below.false
 
-pub put-sign-spec : {M : Type 1} → statement M
-put-sign-spec = tie.close (tie.spec put-requires returns returns-2)
+pub put_sign_spec : {M : Type 1} → statement M
+put_sign_spec = tie.close (tie.spec put-requires returns returns-2)
