@@ -1,4 +1,6 @@
 // Lines of text, and numbers as people read them.
+#![tactic(auto)]
+
 ghost use Rattle.std.specs.Prelude.{◌≡◌, false, ◌&&◌, ◌-◌, ltb, length};
 ghost use Rattle.laws.specs.Lists.{one};
 ghost use Rattle.watch_text.specs.Text.{put_byte, put_all, spaces, right, decimal, sign, whole, hundredths, thousandths};

@@ -1,8 +1,6 @@
 use borrow.Author.Rules.{rules}
 use Rattle.watch_text.proofs.has_sign.Statement.{statement}
 use Rattle.watch_text.proofs.has_sign.Tie as tie
-use Rattle.watch_text.proofs.has_sign.Reads as reads
-use Rattle.watch_text.proofs.has_sign.Lts as lts
 
 -- src/lib.rt:110:9
 returns : tie.Need-returns-then-is_below

@@ -3,8 +3,6 @@ use borrow.Author.Rules.{rules}
 use Rattle.watch_text.specs.Text.{put_byte}
 use Rattle.watch_text.proofs.put.Statement.{statement}
 use Rattle.watch_text.proofs.put.Tie as tie
-use Rattle.watch_text.proofs.put.Reads as reads
-use Rattle.watch_text.proofs.put.Lts as lts
 
 -- src/lib.rt:15:9
 returns : tie.Need-returns-then-at-ge-LINE

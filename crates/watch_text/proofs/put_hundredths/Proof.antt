@@ -6,13 +6,6 @@ use Rattle.watch_text.proofs.Lines.{ended}
 use Rattle.watch_text.specs.Text.{put_all, right, whole, hundredths}
 use Rattle.watch_text.proofs.put_hundredths.Statement.{statement}
 use Rattle.watch_text.proofs.put_hundredths.Tie as tie
-use Rattle.watch_text.proofs.put_hundredths.Reads as reads
-use Rattle.watch_text.proofs.put_hundredths.Lts as lts
-use Rattle.watch_text.proofs.glyph.Reads as glyph-reads
-use Rattle.watch_text.proofs.has_sign.Reads as has-sign-reads
-use Rattle.watch_text.proofs.missing.Reads as missing-reads
-use Rattle.watch_text.proofs.put_text.Reads as put-text-reads
-use Rattle.watch_text.proofs.put_whole.Reads as put-whole-reads
 
 -- src/lib.rt:125:35
 has-sign-requires : tie.Need-has_sign-requires

@@ -7,10 +7,6 @@ use Rattle.watch_text.proofs.Lines.{decimal-is}
 use Rattle.watch_text.specs.Text.{put_all, right}
 use Rattle.watch_text.proofs.put_number.Statement.{statement}
 use Rattle.watch_text.proofs.put_number.Tie as tie
-use Rattle.watch_text.proofs.put_number.Reads as reads
-use Rattle.watch_text.proofs.put_number.Lts as lts
-use Rattle.io.proofs.decimal.Reads as decimal-reads
-use Rattle.watch_text.proofs.put_right.Reads as put-right-reads
 
 -- src/lib.rt:68:9
 decimal-requires : tie.Need-decimal-k-requires
@@ -30,7 +26,7 @@ put-right-requires c κs = search rules
 
 -- src/lib.rt:64:1
 returns : tie.Need-returns
-returns c = c.put_right.ensures ∙ ap (λ (l : List ℕ). put_all (c.before.before.before.before.before.args.line.now, c.before.before.before.before.before.args.at) (right c.before.before.before.before.before.args.width l)) (decimal-is c.before.before.before.decimal-k.result c.before.before.before.before.before.args.x _ (omega arith) c.before.before.before.decimal-k.ensures.1.0 c.before.before.before.decimal-k.ensures.1.1)
+returns c = c.put_right.ensures ∙ ap (λ (l : List ℕ). put_all (c.before.before.before.before.before.args.line.now, c.before.before.before.before.before.args.at) (right c.before.before.before.before.before.args.width l)) (decimal-is c.before.before.before.decimal-k.result c.before.before.before.before.before.args.x _ (omega arith) c.before.before.before.decimal-k.ensures.1.0 c.before.before.before.decimal-k.ensures.1.1.0)
 
 pub put_number_spec : {M : Type 1} → statement M
 put_number_spec =

@@ -2,11 +2,6 @@ use borrow.Author.Rules.{rules}
 use Rattle.watch_text.proofs.Lines.{aligned}
 use Rattle.watch_text.proofs.put_right.Statement.{statement}
 use Rattle.watch_text.proofs.put_right.Tie as tie
-use Rattle.watch_text.proofs.put_right.Reads as reads
-use Rattle.watch_text.proofs.put_right.Lts as lts
-use Rattle.watch_text.proofs.missing.Reads as missing-reads
-use Rattle.watch_text.proofs.put_spaces.Reads as put-spaces-reads
-use Rattle.watch_text.proofs.put_text.Reads as put-text-reads
 
 -- src/lib.rt:59:38
 missing-requires : tie.Need-missing-requires

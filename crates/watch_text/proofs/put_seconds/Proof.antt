@@ -5,10 +5,6 @@ use borrow.Author.Rules.{rules}
 use Rattle.watch_text.specs.Text.{put_all, right, thousandths}
 use Rattle.watch_text.proofs.put_seconds.Statement.{statement}
 use Rattle.watch_text.proofs.put_seconds.Tie as tie
-use Rattle.watch_text.proofs.put_seconds.Reads as reads
-use Rattle.watch_text.proofs.put_seconds.Lts as lts
-use Rattle.watch_text.proofs.millis.Reads as millis-reads
-use Rattle.watch_text.proofs.put_thousandths.Reads as put-thousandths-reads
 
 -- src/lib.rt:154:38
 millis-requires : tie.Need-millis-requires

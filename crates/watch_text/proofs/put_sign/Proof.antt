@@ -2,9 +2,6 @@ use borrow.Author.Rules.{rules}
 use Rattle.watch_text.specs.Text.{put_all}
 use Rattle.watch_text.proofs.put_sign.Statement.{statement}
 use Rattle.watch_text.proofs.put_sign.Tie as tie
-use Rattle.watch_text.proofs.put_sign.Reads as reads
-use Rattle.watch_text.proofs.put_sign.Lts as lts
-use Rattle.watch_text.proofs.put.Reads as put_reads
 
 -- src/lib.rt:88:9
 put-requires : tie.Need-put-requires

@@ -7,9 +7,6 @@ use Rattle.watch_text.proofs.Lines.{put-space}
 use Rattle.watch_text.specs.Text.{Written, put_byte, put_all, spaces}
 use Rattle.watch_text.proofs.put_spaces.Statement.{statement}
 use Rattle.watch_text.proofs.put_spaces.Tie as tie
-use Rattle.watch_text.proofs.put_spaces.Reads as reads
-use Rattle.watch_text.proofs.put_spaces.Lts as lts
-use Rattle.watch_text.proofs.put.Reads as put_reads
 
 abbrev invariant-loop : tie.invariant-loop-i
 invariant-loop line₀ at count end₀ i₀ line end i = (i ≤ count) × ((line, end) ≡ put_all (line₀, at) (spaces i))

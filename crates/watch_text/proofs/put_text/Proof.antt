@@ -7,9 +7,6 @@ use Rattle.watch_text.specs.Text.{put_byte, put_all}
 use Rattle.laws.proofs.Folds.{fold_next, fold_done}
 use Rattle.watch_text.proofs.put_text.Statement.{statement}
 use Rattle.watch_text.proofs.put_text.Tie as tie
-use Rattle.watch_text.proofs.put_text.Reads as reads
-use Rattle.watch_text.proofs.put_text.Lts as lts
-use Rattle.watch_text.proofs.put.Reads as put_reads
 
 abbrev invariant-loop : tie.invariant-loop-i
 invariant-loop line₀ at text end₀ i₀ i-end line end i = (i ≤ i-end) × (i-end ≡ length text) × ((line, end) ≡ put_all (line₀, at) (take i text))

@@ -1,17 +1,8 @@
-use Prim.Native.Nat.{◌-◌}
 use native.Mathlib.Omega.{arith}
 use borrow.Author.Rules.{rules}
 use Rattle.watch_text.proofs.Lines.{decimal-is, whole-put}
 use Rattle.watch_text.proofs.put_whole.Statement.{statement}
 use Rattle.watch_text.proofs.put_whole.Tie as tie
-use Rattle.watch_text.proofs.put_whole.Reads as reads
-use Rattle.watch_text.proofs.put_whole.Lts as lts
-use Rattle.io.proofs.decimal.Reads as decimal-reads
-use Rattle.watch_text.proofs.missing.Reads as missing-reads
-use Rattle.watch_text.proofs.put_sign.Reads as put-sign-reads
-use Rattle.watch_text.proofs.put_spaces.Reads as put-spaces-reads
-use Rattle.watch_text.proofs.put_text.Reads as put-text-reads
-use Rattle.watch_text.proofs.sign_len.Reads as sign-len-reads
 
 -- src/lib.rt:98:9
 decimal-requires : tie.Need-decimal-k-requires
@@ -52,7 +43,7 @@ put-text-requires c κs = search rules
 -- src/lib.rt:94:1
 returns : tie.Need-returns
 returns c =
-    whole-put (c.before.before.before.before.before.before.before.before.before.before.before.before.args.line.now, c.before.before.before.before.before.before.before.before.before.before.before.before.args.at) _ _ _ c.before.before.before.before.before.before.before.before.before.before.before.before.args.width c.before.before.before.before.before.before.before.before.before.before.decimal-k.result c.before.before.before.before.before.before.before.missing-room.result c.before.before.before.before.before.before.before.before.before.before.before.before.args.is_below c.before.before.before.before.before.before.before.before.before.before.before.before.args.x _ c.before.before.before.before.before.before.before.before.before.before.decimal-k.ensures.0.1 (decimal-is c.before.before.before.before.before.before.before.before.before.before.decimal-k.result c.before.before.before.before.before.before.before.before.before.before.before.before.args.x _ (omega arith) c.before.before.before.before.before.before.before.before.before.before.decimal-k.ensures.1.0 c.before.before.before.before.before.before.before.before.before.before.decimal-k.ensures.1.1) (simp (c.before.before.before.before.before.before.before.before.before.missing.ensures, c.before.before.before.before.before.before.before.missing-room.ensures, c.before.before.before.before.before.before.before.before.sign_len.ensures)) c.before.before.before.before.before.put_spaces-start.ensures c.before.before.before.put_sign-end.ensures c.put_text.ensures
+    whole-put (c.before.before.before.before.before.before.before.before.before.before.before.before.args.line.now, c.before.before.before.before.before.before.before.before.before.before.before.before.args.at) _ _ _ c.before.before.before.before.before.before.before.before.before.before.before.before.args.width c.before.before.before.before.before.before.before.before.before.before.decimal-k.result c.before.before.before.before.before.before.before.missing-room.result c.before.before.before.before.before.before.before.before.before.before.before.before.args.is_below c.before.before.before.before.before.before.before.before.before.before.before.before.args.x _ c.before.before.before.before.before.before.before.before.before.before.decimal-k.ensures.0.1 (decimal-is c.before.before.before.before.before.before.before.before.before.before.decimal-k.result c.before.before.before.before.before.before.before.before.before.before.before.before.args.x _ (omega arith) c.before.before.before.before.before.before.before.before.before.before.decimal-k.ensures.1.0 c.before.before.before.before.before.before.before.before.before.before.decimal-k.ensures.1.1.0) (simp (c.before.before.before.before.before.before.before.before.before.missing.ensures, c.before.before.before.before.before.before.before.missing-room.ensures, c.before.before.before.before.before.before.before.before.sign_len.ensures)) c.before.before.before.before.before.put_spaces-start.ensures c.before.before.before.put_sign-end.ensures c.put_text.ensures
 
 pub put_whole_spec : {M : Type 1} → statement M
 put_whole_spec =
