@@ -4,12 +4,12 @@ use Rattle.watch_floats.proofs.is_small.Reads as reads
 use Rattle.watch_floats.proofs.is_small.Lts as lts
 
 -- src/lib.rt:91:9
-returns : tie.Need-returns
-returns c = simp c.if1.true
+returns : tie.Need-returns-then-x
+returns c = simp c.if-x.true
 
 -- src/lib.rt:87:1
-returns-2 : tie.Need-returns-2
-returns-2 c = simp c.if1.false
+returns-2 : tie.Need-returns
+returns-2 c = simp c.if-x.false
 
-pub is-small-spec : {M : Type 1} → statement M
-is-small-spec = tie.close (tie.spec returns returns-2)
+pub is_small_spec : {M : Type 1} → statement M
+is_small_spec = tie.close (tie.spec returns returns-2)

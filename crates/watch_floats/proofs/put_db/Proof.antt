@@ -16,7 +16,7 @@ show-requires : tie.Need-show-requires
 show-requires c κs = search rules
 
 -- src/lib.rt:50:40
-enum_told : tie.Need-enum-told
+enum_told : tie.Need-enum_told-1
 enum_told c = search rules
 
 -- src/lib.rt:50:50
@@ -24,42 +24,42 @@ slice-aggregate-put-right : tie.Need-slice-aggregate-put-right
 slice-aggregate-put-right c = search rules
 
 -- src/lib.rt:50:30
-put-right-requires : tie.Need-put-right-requires
+put-right-requires : tie.Need-put_right-requires
 put-right-requires c κs = search rules
 
 -- src/lib.rt:51:23
-enum-known-is-below : tie.Need-enum-known-is-below
+enum-known-is-below : tie.Need-enum_known-is_below
 enum-known-is-below c = search rules
 
 -- src/lib.rt:51:39
-put-hundredths-requires : tie.Need-put-hundredths-requires
+put-hundredths-requires : tie.Need-put_hundredths-requires
 put-hundredths-requires c κs = search rules
 
 -- src/lib.rt:52:20
-enum-known-is-below-2 : tie.Need-enum-known-is-below-2
+enum-known-is-below-2 : tie.Need-enum_known-is_below-in-Far-1
 enum-known-is-below-2 c = search rules
 
 -- src/lib.rt:52:33
-put-far-requires : tie.Need-put-far-requires
+put-far-requires : tie.Need-put_far-requires
 put-far-requires c κs = search rules
 
 -- src/lib.rt:46:1
-returns : tie.Need-returns
+returns : tie.Need-returns-in-NotANumber
 unfolding db_text
-returns c = c.put_right.ensures ∙ ap (λ (s : Shown). put_all (c.before.before.before.before.before.before.args.line.now, c.before.before.before.before.before.before.args.at) (right c.before.before.before.before.before.before.args.width (shown_text s))) (sym c.before.before.before.enum_told.given.1 ∙ c.before.before.before.before.before.show.ensures)
+returns c = c.put_right.ensures ∙ ap (λ (s : Shown). put_all (c.before.before.before.before.before.before.args.line.now, c.before.before.before.before.before.before.args.at) (right c.before.before.before.before.before.before.args.width (shown_text s))) (sym c.before.before.before.enum_told-1.given.1 ∙ c.before.before.before.before.before.show.ensures)
 
 -- src/lib.rt:46:1
-returns-2 : tie.Need-returns-2
+returns-2 : tie.Need-returns-in-Number
 unfolding db_text
-returns-2 c = c.put-hundredths.ensures ∙ ap (λ (s : Shown). put_all (c.before.before.before.before.before.before.args.line.now, c.before.before.before.before.before.before.args.at) (right c.before.before.before.before.before.before.args.width (shown_text s))) (sym c.before.before.before.is_below.given.1 ∙ c.before.before.before.before.before.show.ensures)
+returns-2 c = c.put_hundredths.ensures ∙ ap (λ (s : Shown). put_all (c.before.before.before.before.before.before.args.line.now, c.before.before.before.before.before.before.args.at) (right c.before.before.before.before.before.before.args.width (shown_text s))) (sym c.before.before.before.is_below-1.given.1 ∙ c.before.before.before.before.before.show.ensures)
 
 -- src/lib.rt:46:1
-returns-3 : tie.Need-returns-3
+returns-3 : tie.Need-returns-in-Far
 unfolding db_text
-returns-3 c = c.put-far.ensures ∙ ap (λ (s : Shown). put_all (c.before.before.before.before.before.before.args.line.now, c.before.before.before.before.before.before.args.at) (right c.before.before.before.before.before.before.args.width (shown_text s))) (sym c.before.before.before.is-below2.given.1 ∙ c.before.before.before.before.before.show.ensures)
+returns-3 c = c.put_far.ensures ∙ ap (λ (s : Shown). put_all (c.before.before.before.before.before.before.args.line.now, c.before.before.before.before.before.before.args.at) (right c.before.before.before.before.before.before.args.width (shown_text s))) (sym c.before.before.before.is_below-in-Far-1.given.1 ∙ c.before.before.before.before.before.show.ensures)
 
-pub put-db-spec : {M : Type 1} → statement M
-put-db-spec =
+pub put_db_spec : {M : Type 1} → statement M
+put_db_spec =
     tie.close
     (tie.spec
     show-requires

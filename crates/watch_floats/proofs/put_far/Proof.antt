@@ -10,27 +10,27 @@ slice-aggregate-put-right : tie.Need-slice-aggregate-put-right
 slice-aggregate-put-right c = search rules
 
 -- src/lib.rt:60:9
-put-right-requires : tie.Need-put-right-requires
+put-right-requires : tie.Need-put_right-requires
 put-right-requires c κs = search rules
 
 -- src/lib.rt:60:9
-returns : tie.Need-returns
-returns c = simp c.before.before.before.if1.true c.put_right.ensures
+returns : tie.Need-returns-then-is_below
+returns c = simp c.before.before.before.if-is_below.true c.put_right.ensures
 
 -- src/lib.rt:62:25
 slice-aggregate-put-right-2 : tie.Need-slice-aggregate-put-right-2
 slice-aggregate-put-right-2 c = search rules
 
 -- src/lib.rt:62:5
-put-right-requires-2 : tie.Need-put-right-requires-2
+put-right-requires-2 : tie.Need-put_right-requires-2
 put-right-requires-2 c κs = search rules
 
 -- src/lib.rt:56:1
-returns-2 : tie.Need-returns-2
-returns-2 c = simp c.before.before.before.if1.false c.put-right2.ensures
+returns-2 : tie.Need-returns
+returns-2 c = simp c.before.before.before.if-is_below.false c.put_right-2.ensures
 
-pub put-far-spec : {M : Type 1} → statement M
-put-far-spec =
+pub put_far_spec : {M : Type 1} → statement M
+put_far_spec =
     tie.close
     (tie.spec
     slice-aggregate-put-right

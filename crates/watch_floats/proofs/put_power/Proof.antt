@@ -12,7 +12,7 @@ use Rattle.watch_floats.proofs.put_scaled.Reads as put-scaled-reads
 use Rattle.watch_floats.proofs.scale.Reads as scale-reads
 
 -- src/lib.rt:100:8
-is-small-requires : tie.Need-is-small-requires
+is-small-requires : tie.Need-is_small-requires
 is-small-requires c κs = search rules
 
 -- src/lib.rt:101:37
@@ -20,25 +20,25 @@ scale-requires : tie.Need-scale-requires
 scale-requires c κs = search rules
 
 -- src/lib.rt:101:9
-put-scaled-requires : tie.Need-put-scaled-requires
+put-scaled-requires : tie.Need-put_scaled-requires
 put-scaled-requires c κs = search rules
 
 -- src/lib.rt:101:9
-returns : tie.Need-returns
+returns : tie.Need-returns-then-is_small
 unfolding power_text
-returns c = simp (sym c.before.before.before.before.is-small.ensures ∙ c.before.before.before.if1.true) (c.put-scaled.ensures ∙ ap (λ (s : Scaled). put_all (c.before.before.before.before.before.args.line.now, c.before.before.before.before.before.args.at) (right c.before.before.before.before.before.args.width (scaled_text s))) c.before.scale.ensures)
+returns c = simp (sym c.before.before.before.before.is_small.ensures ∙ c.before.before.before.if-is_small.true) (c.put_scaled.ensures ∙ ap (λ (s : Scaled). put_all (c.before.before.before.before.before.args.line.now, c.before.before.before.before.before.args.at) (right c.before.before.before.before.before.args.width (scaled_text s))) c.before.scale.ensures)
 
 -- src/lib.rt:103:5
-put-db-requires : tie.Need-put-db-requires
+put-db-requires : tie.Need-put_db-requires
 put-db-requires c κs = search rules
 
 -- src/lib.rt:97:1
-returns-2 : tie.Need-returns-2
+returns-2 : tie.Need-returns
 unfolding power_text
-returns-2 c = simp (sym c.before.before.before.is-small.ensures ∙ c.before.before.if1.false) c.put-db.ensures
+returns-2 c = simp (sym c.before.before.before.is_small.ensures ∙ c.before.before.if-is_small.false) c.put_db.ensures
 
-pub put-power-spec : {M : Type 1} → statement M
-put-power-spec =
+pub put_power_spec : {M : Type 1} → statement M
+put_power_spec =
     tie.close
     (tie.spec
     is-small-requires
