@@ -1,4 +1,6 @@
 // Floats as people read them.
+#![tactic(auto)]
+
 ghost use Rattle.std.specs.Prelude.{◌≡◌, ◌&&◌};
 ghost use Rattle.std.specs.Float.Ieee.{lt};
 ghost use Rattle.watch_text.specs.Text.{put_all, right};

@@ -1,7 +1,5 @@
 use Rattle.watch_floats.proofs.is_small.Statement.{statement}
 use Rattle.watch_floats.proofs.is_small.Tie as tie
-use Rattle.watch_floats.proofs.is_small.Reads as reads
-use Rattle.watch_floats.proofs.is_small.Lts as lts
 
 -- src/lib.rt:91:9
 returns : tie.Need-returns-then-x

@@ -4,12 +4,6 @@ use Rattle.watch_floats.specs.declared.Shown.{Shown}
 use Rattle.watch_text.specs.Text.{put_all, right}
 use Rattle.watch_floats.proofs.put_db.Statement.{statement}
 use Rattle.watch_floats.proofs.put_db.Tie as tie
-use Rattle.watch_floats.proofs.put_db.Reads as reads
-use Rattle.watch_floats.proofs.put_db.Lts as lts
-use Rattle.watch_floats.proofs.put_far.Reads as put-far-reads
-use Rattle.watch_floats.proofs.show.Reads as show-reads
-use Rattle.watch_text.proofs.put_hundredths.Reads as put-hundredths-reads
-use Rattle.watch_text.proofs.put_right.Reads as put-right-reads
 
 -- src/lib.rt:49:11
 show-requires : tie.Need-show-requires
@@ -18,10 +12,6 @@ show-requires c κs = search rules
 -- src/lib.rt:50:40
 enum_told : tie.Need-enum_told-1
 enum_told c = search rules
-
--- src/lib.rt:50:50
-slice-aggregate-put-right : tie.Need-slice-aggregate-put-right
-slice-aggregate-put-right c = search rules
 
 -- src/lib.rt:50:30
 put-right-requires : tie.Need-put_right-requires
@@ -46,17 +36,17 @@ put-far-requires c κs = search rules
 -- src/lib.rt:46:1
 returns : tie.Need-returns-in-NotANumber
 unfolding db_text
-returns c = c.put_right.ensures ∙ ap (λ (s : Shown). put_all (c.before.before.before.before.before.before.args.line.now, c.before.before.before.before.before.before.args.at) (right c.before.before.before.before.before.before.args.width (shown_text s))) (sym c.before.before.before.enum_told-1.given.1 ∙ c.before.before.before.before.before.show.ensures)
+returns c = c.put_right.ensures ∙ ap (λ (s : Shown). put_all (c.before.before.before.before.before.before.args.line.now, c.before.before.before.before.before.before.args.at) (right c.before.before.before.before.before.before.args.width (shown_text s))) (sym c.before.before.in-NotANumber.is ∙ c.before.before.before.before.before.show.ensures)
 
 -- src/lib.rt:46:1
 returns-2 : tie.Need-returns-in-Number
 unfolding db_text
-returns-2 c = c.put_hundredths.ensures ∙ ap (λ (s : Shown). put_all (c.before.before.before.before.before.before.args.line.now, c.before.before.before.before.before.before.args.at) (right c.before.before.before.before.before.before.args.width (shown_text s))) (sym c.before.before.before.is_below-1.given.1 ∙ c.before.before.before.before.before.show.ensures)
+returns-2 c = c.put_hundredths.ensures ∙ ap (λ (s : Shown). put_all (c.before.before.before.before.args.line.now, c.before.before.before.before.args.at) (right c.before.before.before.before.args.width (shown_text s))) (sym c.before.before.in-Number.is ∙ c.before.before.before.show.ensures)
 
 -- src/lib.rt:46:1
 returns-3 : tie.Need-returns-in-Far
 unfolding db_text
-returns-3 c = c.put_far.ensures ∙ ap (λ (s : Shown). put_all (c.before.before.before.before.before.before.args.line.now, c.before.before.before.before.before.before.args.at) (right c.before.before.before.before.before.before.args.width (shown_text s))) (sym c.before.before.before.is_below-in-Far-1.given.1 ∙ c.before.before.before.before.before.show.ensures)
+returns-3 c = c.put_far.ensures ∙ ap (λ (s : Shown). put_all (c.before.before.before.before.args.line.now, c.before.before.before.before.args.at) (right c.before.before.before.before.args.width (shown_text s))) (sym c.before.before.in-Far.is ∙ c.before.before.before.show.ensures)
 
 pub put_db_spec : {M : Type 1} → statement M
 put_db_spec =
@@ -64,7 +54,6 @@ put_db_spec =
     (tie.spec
     show-requires
     enum_told
-    slice-aggregate-put-right
     put-right-requires
     enum-known-is-below
     put-hundredths-requires

@@ -4,12 +4,6 @@ use Rattle.watch_floats.specs.declared.Scaled.{Scaled}
 use Rattle.watch_text.specs.Text.{put_all, right}
 use Rattle.watch_floats.proofs.put_power.Statement.{statement}
 use Rattle.watch_floats.proofs.put_power.Tie as tie
-use Rattle.watch_floats.proofs.put_power.Reads as reads
-use Rattle.watch_floats.proofs.put_power.Lts as lts
-use Rattle.watch_floats.proofs.is_small.Reads as is-small-reads
-use Rattle.watch_floats.proofs.put_db.Reads as put-db-reads
-use Rattle.watch_floats.proofs.put_scaled.Reads as put-scaled-reads
-use Rattle.watch_floats.proofs.scale.Reads as scale-reads
 
 -- src/lib.rt:100:8
 is-small-requires : tie.Need-is_small-requires

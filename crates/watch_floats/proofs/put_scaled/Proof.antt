@@ -3,12 +3,6 @@ use Rattle.watch_text.proofs.Lines.{ended}
 use Rattle.watch_floats.specs.Floats.{scaled_text}
 use Rattle.watch_floats.proofs.put_scaled.Statement.{statement}
 use Rattle.watch_floats.proofs.put_scaled.Tie as tie
-use Rattle.watch_floats.proofs.put_scaled.Reads as reads
-use Rattle.watch_floats.proofs.put_scaled.Lts as lts
-use Rattle.watch_floats.proofs.put_db.Reads as put-db-reads
-use Rattle.watch_text.proofs.glyph.Reads as glyph-reads
-use Rattle.watch_text.proofs.missing.Reads as missing-reads
-use Rattle.watch_text.proofs.put_text.Reads as put-text-reads
 
 -- src/lib.rt:112:41
 missing-requires : tie.Need-missing-requires

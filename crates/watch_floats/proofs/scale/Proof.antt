@@ -3,8 +3,6 @@ use Rattle.watch_floats.proofs.Scales.{scale-next, scale-stays, scale-ends}
 use Rattle.watch_floats.specs.Floats.{scaled_up, scale_of}
 use Rattle.watch_floats.proofs.scale.Statement.{statement}
 use Rattle.watch_floats.proofs.scale.Tie as tie
-use Rattle.watch_floats.proofs.scale.Reads as reads
-use Rattle.watch_floats.proofs.scale.Lts as lts
 
 abbrev invariant-loop : tie.invariant-loop-s
 invariant-loop x s₀ s = (s.tens ≤ 330) × (scale_of x ≡ scaled_up (330 - s.tens) s)

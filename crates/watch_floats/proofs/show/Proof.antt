@@ -1,9 +1,6 @@
 use Rattle.std.proofs.Common.{rules}
 use Rattle.watch_floats.proofs.show.Statement.{statement}
 use Rattle.watch_floats.proofs.show.Tie as tie
-use Rattle.watch_floats.proofs.show.Reads as reads
-use Rattle.watch_floats.proofs.show.Lts as lts
-use Rattle.watch_floats.proofs.sized.Reads as sized_Reads
 
 -- src/lib.rt:156:9
 returns : tie.Need-returns-then-x

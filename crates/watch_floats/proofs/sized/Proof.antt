@@ -2,9 +2,6 @@ use Rattle.std.proofs.Common.{T, sym, subst}
 use lib.Ieee.{of_bits, neg}
 use Rattle.watch_floats.proofs.sized.Statement.{statement}
 use Rattle.watch_floats.proofs.sized.Tie as tie
-use Rattle.watch_floats.proofs.sized.Reads as reads
-use Rattle.watch_floats.proofs.sized.Lts as lts
-use Rattle.std.proofs.num.truncating_f64_to_u64.Reads as truncating-f64-to-u64-reads
 
 -- src/lib.rt:146:44
 truncating-f64-to-u64-requires : tie.Need-truncating_f64_to_u64-requires
