@@ -2,6 +2,7 @@
 mod records;
 
 use replay_data::state::{GATE_LEN, MOST, MOST_F_LEN, MOST_GATE_F_LEN, MOST_LEN, Replay};
+use streams::{STDOUT, Source};
 
 const MOST_BYTES: usize = 600000;
 
@@ -31,25 +32,25 @@ fn replay_list(list: &[u8]) -> Replay {
     r
 }
 
-fn replay_bytes(buffer: &mut [u8]) -> Replay {
-    let bytes = io::read_full(0, buffer);
+fn replay_bytes(source: &Source, buffer: &mut [u8]) -> Replay {
+    let bytes = streams::read_full(source, buffer);
     replay_list(&buffer[..bytes])
 }
 
 // On the whole array, whose length needs no proof.
-fn replay_input(buffer: &mut [u8; MOST_BYTES]) -> Replay {
-    replay_bytes(buffer)
+fn replay_input(source: &Source, buffer: &mut [u8; MOST_BYTES]) -> Replay {
+    replay_bytes(source, buffer)
 }
 
 fn print_counts(r: Replay) {
-    io::write_all(1, b"replayed ");
-    io::print_decimal(1, r.records);
-    io::write_all(1, b" records, ");
-    io::print_decimal(1, r.differences);
-    io::write_all(1, b" differences\n");
+    io::write_all(STDOUT, b"replayed ");
+    io::print_decimal(STDOUT, r.records);
+    io::write_all(STDOUT, b" records, ");
+    io::print_decimal(STDOUT, r.differences);
+    io::write_all(STDOUT, b" differences\n");
 }
 
-fn main() {
+fn main(rt: HostRuntime) {
     let mut buffer = [0u8; MOST_BYTES];
-    print_counts(replay_input(&mut buffer));
+    print_counts(replay_input(&Source::Input(rt.stdin()), &mut buffer));
 }

@@ -8,6 +8,7 @@ ghost use Rattle.watch_recording.specs.Recording.{hop_bytes};
 ghost use Rattle.watch_batch.specs.Batch.{start_of, Whole, hop_taken, smooth_after, started_after, with_front};
 
 use laws::least;
+use streams::Source;
 use watch_recording::hop_bytes;
 
 // From a slow hop to the next.
@@ -26,26 +27,25 @@ pub fn start_of(hop: u64, n: u16) -> usize
 }
 
 // What is there, of what goes to the lent bytes.
-fn read_there(fd: i32, bytes: &mut [u8]) -> usize
+fn read_there(source: &Source, bytes: &mut [u8]) -> usize
     ensures { result ≤ length bytes.new }
 {
-    let got = libc::read(fd, bytes);
-    io::count(got, bytes)
+    streams::read(source, bytes)
 }
 
 // Behind the first `have` bytes one read of what is there; and where that ends before `due`, the rest up to it.
-fn read_behind(fd: i32, bytes: &mut [u8], have: usize, due: usize) -> usize
+fn read_behind(source: &Source, bytes: &mut [u8], have: usize, due: usize) -> usize
     requires { (have < due) × (due ≤ length bytes.old) }
     ensures { (have ≤ result) × (result ≤ length bytes.old) }
 {
-    let got = have + read_there(fd, &mut bytes[have..]);
+    let got = have + read_there(source, &mut bytes[have..]);
     if got == have {
         return have;
     }
     if got >= due {
         return got;
     }
-    got + io::read_full(fd, &mut bytes[got..due])
+    got + streams::read_full(source, &mut bytes[got..due])
 }
 
 // At a slow hop the bytes of the hops before it are done with.
@@ -59,7 +59,7 @@ fn held_of(at: usize, have: usize, len: usize) -> usize
 }
 
 // The bytes of a recording up to a whole hop or its end, and more if more is there: so a hop waits for none behind it.
-pub fn read_on(fd: i32, hop: u64, n: u16, bytes: &mut [u8], have: usize) -> usize
+pub fn read_on(source: &Source, hop: u64, n: u16, bytes: &mut [u8], have: usize) -> usize
     ensures { result ≤ length bytes.old }
 {
     let at = start_of(hop, n);
@@ -68,7 +68,7 @@ pub fn read_on(fd: i32, hop: u64, n: u16, bytes: &mut [u8], have: usize) -> usiz
     if held >= due {
         return held;
     }
-    read_behind(fd, bytes, held, due)
+    read_behind(source, bytes, held, due)
 }
 
 // How many whole hops stand in front, each with a flag that means something.

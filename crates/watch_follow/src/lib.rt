@@ -3,6 +3,7 @@ ghost use Rattle.std.specs.Prelude.{◌≡◌};
 ghost use Rattle.watch_follow.specs.Followed.{is_taken, taken_bytes, stopped, after_hop, followed};
 
 use origins::Explanation;
+use streams::Source;
 use watch_hear::Heard;
 use watch_notices::faults;
 use watch_recording::Place;
@@ -11,7 +12,7 @@ use watch_words::Settings;
 
 // What became of a hop: told, and if it was taken counted.
 pub fn follow(
-    fd: i32,
+    source: &Source,
     name: &[u8],
     s: Settings,
     place: Place,
@@ -34,7 +35,7 @@ pub fn follow(
     ensures { (result, alive.new, alive_hops.new, events.new, rises.new) ≡ followed heard place alive.old alive_hops.old events.old rises.old rise.now drop.now }
 {
     if !is_taken(heard) {
-        return print_stop(fd, name, place, heard);
+        return print_stop(source, name, place, heard);
     }
     take_hop(
         s,
@@ -82,11 +83,11 @@ fn taken_bytes(heard: Heard) -> usize
 }
 
 // Why no more hops are taken.
-pub fn print_stop(fd: i32, name: &[u8], place: Place, heard: Heard) -> Place
+pub fn print_stop(source: &Source, name: &[u8], place: Place, heard: Heard) -> Place
     ensures { result ≡ stopped place }
 {
     match heard {
-        Heard::Cut(got) => faults::print_cut(fd, name, place, got),
+        Heard::Cut(got) => faults::print_cut(source, name, place, got),
         Heard::BadFlag(flag) => faults::print_bad_flag(name, place, flag),
         Heard::Refused(no) => faults::print_refused(name, place, no),
         _ => {}

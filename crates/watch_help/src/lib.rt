@@ -1,9 +1,10 @@
 // What the program says of itself, and of a word that it cannot take.
-use libc::{STDERR_FILENO, STDOUT_FILENO};
+use std::env::Env;
+use streams::{STDERR, STDOUT};
 use watch_words::Settings;
 
 fn say(text: &[u8]) {
-    io::write_all(STDOUT_FILENO, text);
+    io::write_all(STDOUT, text);
 }
 
 pub fn print_help() {
@@ -83,7 +84,7 @@ fn print_report() {
 }
 
 fn cry(text: &[u8]) {
-    io::write_all(STDERR_FILENO, text);
+    io::write_all(STDERR, text);
 }
 
 fn print_reason(fault: u8) {
@@ -104,13 +105,13 @@ fn print_reason(fault: u8) {
 }
 
 // Names the word and its number.
-pub fn print_fault(s: Settings) {
+pub fn print_fault(env: &impl Env, s: Settings) {
     let mut word = io::buffer();
-    let len = os::arg(s.word, &mut word);
+    let len = env.arg(s.word, &mut word).unwrap_or(0);
     cry(b"watch: word ");
-    io::print_decimal(STDERR_FILENO, s.word as u64);
+    io::print_decimal(STDERR, s.word as u64);
     cry(b", ");
-    io::write_all(STDERR_FILENO, &word[..len]);
+    io::write_all(STDERR, &word[..len]);
     cry(b",");
     print_reason(s.fault);
 }

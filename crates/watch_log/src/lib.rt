@@ -8,6 +8,7 @@ ghost use Rattle.watch_log.specs.Logged.{refused_by, step_by, logged_of};
 
 use laws::{least, wide};
 use log_model::LogRead;
+use streams::Source;
 use watch_recording::{MOST, Step};
 
 // The header, a map of 512 channels and their pairs.
@@ -86,22 +87,22 @@ fn take_hop(
 }
 
 // The map of the next hop, then as many pairs as it says: how many bytes could be read.
-fn read_bytes(fd: i32, log: &mut [u8], n: usize) -> usize
+fn read_bytes(source: &Source, log: &mut [u8], n: usize) -> usize
     requires { (n ≤ 512) × (6210 ≤ length log.old) }
     ensures { result ≤ 6208 }
 {
     let map = laws::width(n);
-    let got = io::read_full(fd, &mut log[2..2 + map]);
+    let got = streams::read_full(source, &mut log[2..2 + map]);
     if got < map {
         return got;
     }
     let pairs = 12 * log_read::count_set(log, 2, n);
-    map + io::read_full(fd, &mut log[2 + map..2 + map + pairs])
+    map + streams::read_full(source, &mut log[2 + map..2 + map + pairs])
 }
 
 // The next hop: its bit patterns take the place of those of the hop before, and its values go to the lists.
 pub fn read_hop(
-    fd: i32,
+    source: &Source,
     n: u16,
     bits: &mut [u64],
     powers: &mut [u32],
@@ -110,6 +111,6 @@ pub fn read_hop(
 ) -> Step {
     let mut log = [0u8; MOST_BYTES];
     log_hops::put_low(&mut log, 0, 2, wide(n) as u64);
-    let got = read_bytes(fd, &mut log, least(wide(n), MOST));
+    let got = read_bytes(source, &mut log, least(wide(n), MOST));
     take_hop(&log[..2 + got], got, bits, powers, db, power)
 }

@@ -1,6 +1,6 @@
 // What is wrong with a recording or a log, on standard error, with the hop and the byte.
 use crate::out::cry;
-use libc::STDERR_FILENO;
+use streams::{STDERR, Source};
 use watch_fault_lines::{
     put_bad_band, put_bad_flag, put_cut_place, put_place, put_refused, put_too_large,
 };
@@ -9,27 +9,27 @@ use watch_text::LINE;
 
 // `watch: NAME`, and the line as far as it is written.
 fn cry_of(name: &[u8], line: &[u8; LINE], end: usize) {
-    io::write_all(STDERR_FILENO, b"watch: ");
-    io::write_all(STDERR_FILENO, name);
+    io::write_all(STDERR, b"watch: ");
+    io::write_all(STDERR, name);
     cry(line, end);
 }
 
 // The input ended or failed within what was due: one read more tells which.
-fn cry_short(fd: i32, what: &[u8]) {
+fn cry_short(source: &Source, what: &[u8]) {
     let mut more = [0u8; 1];
-    let got = libc::read(fd, &mut more);
-    if got < 0 {
-        os::fail(b"it cannot be read");
-        return;
+    match streams::try_read(source, &mut more) {
+        Ok(_) => {
+            io::write_all(STDERR, what);
+        }
+        Err(why) => streams::fail(b"it cannot be read", why),
     }
-    io::write_all(STDERR_FILENO, what);
 }
 
-pub fn print_no_header(fd: i32, name: &[u8], got: usize) {
+pub fn print_no_header(source: &Source, name: &[u8], got: usize) {
     let mut line = [0u8; LINE];
     let end = put_place(&mut line, 0, got as u64);
     cry_of(name, &line, end);
-    cry_short(fd, b"it is cut: it has no number of channels\n");
+    cry_short(source, b"it is cut: it has no number of channels\n");
 }
 
 pub fn print_bad_band(name: &[u8], n: u16) {
@@ -55,11 +55,11 @@ pub fn print_refused(name: &[u8], place: Place, no: u16) {
 }
 
 // It ends within a hop.
-pub fn print_cut(fd: i32, name: &[u8], place: Place, got: usize) {
+pub fn print_cut(source: &Source, name: &[u8], place: Place, got: usize) {
     let mut line = [0u8; LINE];
     let end = put_cut_place(&mut line, place, got);
     cry_of(name, &line, end);
-    cry_short(fd, b"it is cut within this hop\n");
+    cry_short(source, b"it is cut within this hop\n");
 }
 
 pub fn print_bad_flag(name: &[u8], place: Place, flag: u8) {

@@ -1,6 +1,6 @@
 // The head of a report: the settings, or the names of the columns.
 use crate::out::say;
-use libc::STDOUT_FILENO;
+use streams::STDOUT;
 use watch_figures::{thousandths, wide};
 use watch_levels::Level;
 use watch_text::{LINE, put_number, put_text, put_thousandths};
@@ -65,22 +65,22 @@ pub fn print_head(name: &[u8], s: Settings, lengths: &[u16], n: u16) {
         print_csv_head(s);
         return;
     }
-    io::write_all(STDOUT_FILENO, b"Watching ");
-    io::write_all(STDOUT_FILENO, name);
-    io::write_all(STDOUT_FILENO, b": ");
+    io::write_all(STDOUT, b"Watching ");
+    io::write_all(STDOUT, name);
+    io::write_all(STDOUT, b": ");
     print_settings(s, lengths, n);
     if s.explained > 0 {
         print_explain_head(s.explained - 1);
         return;
     }
     io::write_all(
-        STDOUT_FILENO,
+        STDOUT,
         b"     hop   seconds  channel  change   smoothed  effective  rise floor",
     );
     if s.has_reference {
-        io::write_all(STDOUT_FILENO, b"  reference");
+        io::write_all(STDOUT, b"  reference");
     }
-    io::write_all(STDOUT_FILENO, b"\n");
+    io::write_all(STDOUT, b"\n");
 }
 
 fn print_explain_head(k: usize) {
@@ -90,21 +90,21 @@ fn print_explain_head(k: usize) {
     let at = put_text(&mut line, at, b" come from:\n\n");
     say(&line, at);
     io::write_all(
-        STDOUT_FILENO,
+        STDOUT,
         b"     hop   seconds  effective  effective from  rise floor  rise floor from\n",
     );
 }
 
 fn print_csv_head(s: Settings) {
     io::write_all(
-        STDOUT_FILENO,
+        STDOUT,
         b"hop,seconds,channel,db,smoothed_db,raw_floor_db,effective_floor_db,rise_floor_db,alive,event,effective_origin,rise_origin",
     );
     if s.has_reference {
-        io::write_all(STDOUT_FILENO, b",reference");
+        io::write_all(STDOUT, b",reference");
     }
     if s.worst > 0 {
-        io::write_all(STDOUT_FILENO, b",worst_floor_db");
+        io::write_all(STDOUT, b",worst_floor_db");
     }
-    io::write_all(STDOUT_FILENO, b"\n");
+    io::write_all(STDOUT, b"\n");
 }

@@ -1,5 +1,5 @@
 // Lines on standard output and standard error.
-use libc::{STDERR_FILENO, STDOUT_FILENO};
+use streams::{STDERR, STDOUT};
 use watch_text::LINE;
 
 fn write_part(fd: i32, line: &[u8], end: usize) {
@@ -10,9 +10,9 @@ fn write_part(fd: i32, line: &[u8], end: usize) {
 
 // The line as far as it is written.
 pub fn say(line: &[u8; LINE], end: usize) {
-    write_part(STDOUT_FILENO, line, end);
+    write_part(STDOUT, line, end);
 }
 
 pub fn cry(line: &[u8; LINE], end: usize) {
-    write_part(STDERR_FILENO, line, end);
+    write_part(STDERR, line, end);
 }

@@ -1,6 +1,7 @@
 // The hops of a recording or a log: batch by batch, or one after another.
 ghost use Rattle.std.specs.Prelude.{◌≡◌, not, ◌&&◌, eqb};
 
+use streams::Source;
 use watch_words::Settings;
 
 // A run doesn't carry the store of the worst floor of late, nor show the spectral reference after each of its hops; and the hops of a log are
@@ -18,7 +19,7 @@ fn is_by_runs(s: Settings) -> bool
 }
 
 pub fn watch_hops(
-    fd: i32,
+    source: &Source,
     name: &[u8],
     s: Settings,
     n: u16,
@@ -30,8 +31,8 @@ pub fn watch_hops(
     gate_f: &mut [f64],
 ) {
     if is_by_runs(s) {
-        watch_runs::watch_runs(fd, name, s, n, bank, bank_f, gate, gate_f);
+        watch_runs::watch_runs(source, name, s, n, bank, bank_f, gate, gate_f);
         return;
     }
-    watch_singly::watch_each(fd, name, s, n, bank, bank_f, worst, worst_f, gate, gate_f);
+    watch_singly::watch_each(source, name, s, n, bank, bank_f, worst, worst_f, gate, gate_f);
 }

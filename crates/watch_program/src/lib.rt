@@ -2,66 +2,100 @@
 mod hops;
 mod stores_of;
 
-use libc::{STDERR_FILENO, STDIN_FILENO};
+use std::env::{Env, FillError};
+use std::fs::{File, Files};
+use std::io::{Error, ErrorKind, Result, Stdin};
+use streams::{STDERR, Source};
 use watch_words::Settings;
 
 // The words of the command line from one on and up to another, one after another.
-fn read_words(first: usize, end: usize, lengths: &mut [u16; 8]) -> Settings {
+fn read_words(env: &impl Env, first: usize, end: usize, lengths: &mut [u16; 8]) -> Settings {
     let mut s = watch_words::default_settings();
     for i in first..end {
-        s = read_word(s, i, lengths);
+        s = read_word(env, s, i, lengths);
     }
     watch_words::taken(s)
 }
 
-fn read_word(s: Settings, i: usize, lengths: &mut [u16; 8]) -> Settings {
+fn read_word(env: &impl Env, s: Settings, i: usize, lengths: &mut [u16; 8]) -> Settings {
     let mut word = io::buffer();
-    let len = os::arg(i, &mut word);
-    if os::errno() != 0 {
-        return watch_words::faulty(s, watch_words::TOO_LONG, i);
+    match env.arg(i, &mut word) {
+        Ok(len) => watch_words::take_word(s, i, &word[..len], lengths),
+        Err(_) => watch_words::faulty(s, watch_words::TOO_LONG, i),
     }
-    watch_words::take_word(s, i, &word[..len], lengths)
 }
 
-fn watch_file(s: Settings, lengths: &[u16; 8]) {
+// A name that is no text in UTF-8 can't be opened.
+fn open(files: &impl Files<File = File>, name: &[u8]) -> Result<File> {
+    match std::str::from_utf8(name) {
+        Ok(text) => File::open(files, text),
+        Err(_) => Err(Error::from(ErrorKind::InvalidFilename)),
+    }
+}
+
+fn watch_named(files: &impl Files<File = File>, name: &[u8], s: Settings, lengths: &[u16; 8]) {
+    match open(files, name) {
+        Ok(file) => stores_of::watch_open(&Source::Named(file), name, s, lengths),
+        Err(why) => {
+            io::write_all(STDERR, b"watch: ");
+            streams::fail(name, why);
+        }
+    }
+}
+
+fn watch_file(
+    rt: &(impl Env + Files<File = File>),
+    input: Stdin,
+    s: Settings,
+    lengths: &[u16; 8],
+) {
     let mut name = io::buffer();
-    let len = os::arg(s.file, &mut name);
-    if check::same(&name[..len], b"-") {
-        stores_of::watch_open(STDIN_FILENO, b"standard input", s, lengths);
+    let len = rt.arg(s.file, &mut name).unwrap_or(0);
+    if &name[..len] == b"-" {
+        stores_of::watch_open(&Source::Input(input), b"standard input", s, lengths);
         return;
     }
-    let fd = os::open_read(&name[..len]);
-    if fd < 0 {
-        io::write_all(STDERR_FILENO, b"watch: ");
-        os::fail(&name[..len]);
-        return;
-    }
-    stores_of::watch_open(fd, &name[..len], s, lengths);
-    libc::close(fd);
+    watch_named(rt, &name[..len], s, lengths);
 }
 
-pub fn run() {
-    run_words(1, os::arg_count());
+// How many words the command line has, the program's own name among them.
+fn word_count(env: &impl Env) -> usize {
+    for i in 0..usize::MAX {
+        match env.arg(i, &mut []) {
+            Err(FillError::NotPresent) => return i,
+            _ => {}
+        }
+    }
+    usize::MAX
+}
+
+pub fn run(rt: &(impl Env + Files<File = File>), input: Stdin) {
+    run_words(rt, input, 1, word_count(rt));
 }
 
 // As if these words were all of the command line. The kept runs stand one after another on one.
-pub fn run_words(first: usize, end: usize) {
+pub fn run_words(
+    rt: &(impl Env + Files<File = File>),
+    input: Stdin,
+    first: usize,
+    end: usize,
+) {
     let mut lengths = watch_words::default_lengths();
-    let s = read_words(first, end, &mut lengths);
+    let s = read_words(rt, first, end, &mut lengths);
     if s.is_help {
         watch_help::print_help();
         return;
     }
     if s.fault != watch_words::NOTHING {
-        watch_help::print_fault(s);
+        watch_help::print_fault(rt, s);
         return;
     }
     if s.file == 0 {
         io::write_all(
-            STDERR_FILENO,
+            STDERR,
             b"watch: no recording or log is named; watch --help says how\n",
         );
         return;
     }
-    watch_file(s, &lengths);
+    watch_file(rt, input, s, &lengths);
 }

@@ -2,6 +2,7 @@
 use crate::hops::watch_hops;
 use laws::wide;
 use model::layout::{BLOCK_CHANNELS, BLOCK_REST, CHANNEL_LEN};
+use streams::Source;
 use watch_notices::{faults, head};
 use watch_stores::{make, make_worst};
 use watch_words::Settings;
@@ -25,11 +26,11 @@ const GATE: usize = 30;
 // A gate of 512 channels with windows of 15, 75 and 375 hops takes 480,768; all stores together, 7.1 MB, fit a stack of 8 MB.
 const MOST_GATE_F: usize = 500000;
 
-pub fn watch_open(fd: i32, name: &[u8], s: Settings, lengths: &[u16; 8]) {
+pub fn watch_open(source: &Source, name: &[u8], s: Settings, lengths: &[u16; 8]) {
     let mut two = [0u8; 2];
-    let got = io::read_full(fd, &mut two);
+    let got = streams::read_full(source, &mut two);
     if got < 2 {
-        faults::print_no_header(fd, name, got);
+        faults::print_no_header(source, name, got);
         return;
     }
     let n = low_first::two_bytes(&two, 0);
@@ -37,10 +38,10 @@ pub fn watch_open(fd: i32, name: &[u8], s: Settings, lengths: &[u16; 8]) {
         faults::print_bad_band(name, n);
         return;
     }
-    watch_channels(fd, name, s, lengths, n);
+    watch_channels(source, name, s, lengths, n);
 }
 
-fn watch_channels(fd: i32, name: &[u8], s: Settings, lengths: &[u16], n: u16) {
+fn watch_channels(source: &Source, name: &[u8], s: Settings, lengths: &[u16], n: u16) {
     let count = s.lengths;
     if count > lengths.len() {
         return;
@@ -50,10 +51,10 @@ fn watch_channels(fd: i32, name: &[u8], s: Settings, lengths: &[u16], n: u16) {
         faults::print_too_large(name, n, gate_f_len, MOST_GATE_F);
         return;
     }
-    watch_sized(fd, name, s, &lengths[..count], n, gate_f_len);
+    watch_sized(source, name, s, &lengths[..count], n, gate_f_len);
 }
 
-fn watch_sized(fd: i32, name: &[u8], s: Settings, lengths: &[u16], n: u16, gate_f_len: usize) {
+fn watch_sized(source: &Source, name: &[u8], s: Settings, lengths: &[u16], n: u16, gate_f_len: usize) {
     let mut bank = [0u16; MOST_BANK];
     let mut bank_f = [0.0f64; MOST_BANK_F];
     let mut worst = [0u16; WORST];
@@ -61,7 +62,7 @@ fn watch_sized(fd: i32, name: &[u8], s: Settings, lengths: &[u16], n: u16, gate_
     let mut gate = [0u16; GATE];
     let mut gate_f = [0.0f64; MOST_GATE_F];
     watch_arrays(
-        fd,
+        source,
         name,
         s,
         lengths,
@@ -78,7 +79,7 @@ fn watch_sized(fd: i32, name: &[u8], s: Settings, lengths: &[u16], n: u16, gate_
 
 // Whole arrays become slices here, with no proof of their lengths.
 fn watch_arrays(
-    fd: i32,
+    source: &Source,
     name: &[u8],
     s: Settings,
     lengths: &[u16],
@@ -92,13 +93,13 @@ fn watch_arrays(
     gate_f: &mut [f64; MOST_GATE_F],
 ) {
     watch_parts(
-        fd, name, s, lengths, n, gate_f_len, bank, bank_f, worst, worst_f, gate, gate_f,
+        source, name, s, lengths, n, gate_f_len, bank, bank_f, worst, worst_f, gate, gate_f,
     );
 }
 
 // The parts of the stores that the recording takes.
 fn watch_parts(
-    fd: i32,
+    source: &Source,
     name: &[u8],
     s: Settings,
     lengths: &[u16],
@@ -127,7 +128,7 @@ fn watch_parts(
         return;
     }
     watch_with(
-        fd,
+        source,
         name,
         s,
         lengths,
@@ -162,7 +163,7 @@ fn make_all(
 
 // Makes the stores, and watches the hops.
 fn watch_with(
-    fd: i32,
+    source: &Source,
     name: &[u8],
     s: Settings,
     lengths: &[u16],
@@ -185,5 +186,5 @@ fn watch_with(
         return;
     }
     head::print_head(name, s, lengths, n);
-    watch_hops(fd, name, s, n, bank, bank_f, worst, worst_f, gate, gate_f);
+    watch_hops(source, name, s, n, bank, bank_f, worst, worst_f, gate, gate_f);
 }

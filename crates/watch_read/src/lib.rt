@@ -3,6 +3,7 @@ ghost use Rattle.std.specs.Prelude.{◌≡◌, ◌≤◌, length};
 ghost use Rattle.watch_read.specs.Read.{read_of};
 
 use laws::least;
+use streams::Source;
 use watch_recording::{MOST_HOP_BYTES, Step};
 
 // What the first `got` bytes of a hop say, with its values.
@@ -16,14 +17,14 @@ fn take_values(hop: &[u8], got: usize, n: u16, db: &mut [f64], power: &mut [f32]
 }
 
 // What could be read of a hop, with its values.
-fn read_values(fd: i32, n: u16, hop: &mut [u8], db: &mut [f64], power: &mut [f32]) -> Step {
-    let got = io::read_full(fd, hop);
+fn read_values(source: &Source, n: u16, hop: &mut [u8], db: &mut [f64], power: &mut [f32]) -> Step {
+    let got = streams::read_full(source, hop);
     take_values(hop, got, n, db, power)
 }
 
 // The next hop: its values go to the lists.
-pub fn read_hop(fd: i32, n: u16, db: &mut [f64], power: &mut [f32]) -> Step {
+pub fn read_hop(source: &Source, n: u16, db: &mut [f64], power: &mut [f32]) -> Step {
     let mut hop = [0u8; MOST_HOP_BYTES];
     let size = least(watch_recording::hop_bytes(n), MOST_HOP_BYTES);
-    read_values(fd, n, &mut hop[..size], db, power)
+    read_values(source, n, &mut hop[..size], db, power)
 }

@@ -1,7 +1,7 @@
 // The channels at the end of a report.
 use crate::explanations::explanation_shown;
 use crate::out::{floors_shown, put_reference, worst_shown};
-use libc::STDOUT_FILENO;
+use streams::STDOUT;
 use watch_lines::{put_channel_line, put_total_line};
 use watch_notices::out::say;
 use watch_text::{LINE, put_text};
@@ -42,12 +42,12 @@ fn print_total(s: Settings, hops: u64) {
     let mut line = [0u8; LINE];
     let at = put_total_line(&mut line, hops);
     say(&line, at);
-    io::write_all(STDOUT_FILENO, b"channel        raw  effective  rise floor");
+    io::write_all(STDOUT, b"channel        raw  effective  rise floor");
     if s.worst > 0 {
-        io::write_all(STDOUT_FILENO, b"  worst of late");
+        io::write_all(STDOUT, b"  worst of late");
     }
     io::write_all(
-        STDOUT_FILENO,
+        STDOUT,
         b"  effective from  rise floor from   alive s  rises  now\n",
     );
 }

@@ -5,6 +5,7 @@ ghost use Rattle.watch_recording.specs.Recording.{hop_bytes};
 
 use laws::{least, wide};
 use origins::Explanation;
+use streams::Source;
 use watch_batch::{
     MOST_BYTES, MOST_HOPS, MOST_VALUES, keep_db, put_db, smooth_hop, started_after, started_of,
 };
@@ -17,7 +18,7 @@ use watch_words::Settings;
 
 // Lends each list at the size of what is watched.
 pub fn watch_runs(
-    fd: i32,
+    source: &Source,
     name: &[u8],
     s: Settings,
     n: u16,
@@ -38,7 +39,7 @@ pub fn watch_runs(
     let k = least(wide(n), MOST);
     let size = least(MOST_HOPS * hop_bytes(n), MOST_BYTES);
     watch_all(
-        fd,
+        source,
         name,
         s,
         n,
@@ -60,7 +61,7 @@ pub fn watch_runs(
 
 // Nothing that is watched has as many batches as there are turns.
 fn watch_all(
-    fd: i32,
+    source: &Source,
     name: &[u8],
     s: Settings,
     n: u16,
@@ -84,10 +85,10 @@ fn watch_all(
     let mut have: usize = 0;
     let mut turns = u64::MAX;
     while turns > 0 && place.is_on {
-        have = watch_batch::read_on(fd, place.hop, n, bytes, have);
+        have = watch_batch::read_on(source, place.hop, n, bytes, have);
         let at = least(watch_batch::start_of(place.hop, n), have);
         place = watch_next(
-            fd,
+            source,
             name,
             s,
             n,
@@ -132,7 +133,7 @@ fn no_hop(bytes: &[u8], size: usize) -> Heard {
 
 // What has come from where a hop is due: the whole hops in front are a batch.
 fn watch_next(
-    fd: i32,
+    source: &Source,
     name: &[u8],
     s: Settings,
     n: u16,
@@ -157,7 +158,7 @@ fn watch_next(
     let long = alive.len() * hops;
     let mut hold = [0u8; MOST_HOPS];
     take_batch(
-        fd,
+        source,
         name,
         s,
         n,
@@ -181,7 +182,7 @@ fn watch_next(
 
 // A batch is told as it was heard. The smoothed dB from before it are kept, to follow them hop by hop.
 fn take_batch(
-    fd: i32,
+    source: &Source,
     name: &[u8],
     s: Settings,
     n: u16,
@@ -244,7 +245,7 @@ fn take_batch(
         events,
         rises,
     );
-    close_batch(fd, name, told, bytes, n, took)
+    close_batch(source, name, told, bytes, n, took)
 }
 
 // What became of a batch.
@@ -272,11 +273,11 @@ fn why_none(took: Took, bytes: &[u8], size: usize) -> Heard {
 }
 
 // Where no hop was taken the watch ends, and says why.
-fn close_batch(fd: i32, name: &[u8], place: Place, bytes: &[u8], n: u16, took: Took) -> Place {
+fn close_batch(source: &Source, name: &[u8], place: Place, bytes: &[u8], n: u16, took: Took) -> Place {
     if hops_of(took) > 0 {
         return place;
     }
-    print_stop(fd, name, place, why_none(took, bytes, hop_bytes(n)))
+    print_stop(source, name, place, why_none(took, bytes, hop_bytes(n)))
 }
 
 // The values of each hop, its dB as read or as worked out from its powers (R-13).

@@ -1,5 +1,6 @@
 // The hops of a recording or a log one after another, by single calls: each read, heard, told and counted.
 use laws::{least, wide};
+use streams::Source;
 use watch_follow::follow;
 use watch_hear::hear;
 use watch_recording::{MOST, Step};
@@ -9,7 +10,7 @@ use watch_words::Settings;
 
 // Lends each list at the size of what is watched. Before the first hop of a log all bit patterns are zero.
 pub fn watch_each(
-    fd: i32,
+    source: &Source,
     name: &[u8],
     s: Settings,
     n: u16,
@@ -32,7 +33,7 @@ pub fn watch_each(
     let mut rises = [0u64; MOST];
     let k = least(wide(n), MOST);
     watch_all(
-        fd,
+        source,
         name,
         s,
         n,
@@ -57,7 +58,7 @@ pub fn watch_each(
 
 // The next hop as it was kept, in a log or in a recording.
 fn read_kept(
-    fd: i32,
+    source: &Source,
     s: Settings,
     n: u16,
     bits: &mut [u64],
@@ -66,14 +67,14 @@ fn read_kept(
     power: &mut [f32],
 ) -> Step {
     if s.is_log {
-        return watch_log::read_hop(fd, n, bits, powers, db, power);
+        return watch_log::read_hop(source, n, bits, powers, db, power);
     }
-    watch_read::read_hop(fd, n, db, power)
+    watch_read::read_hop(source, n, db, power)
 }
 
 // The next hop, its dB as read or as worked out from its powers (R-13).
 fn read_hop(
-    fd: i32,
+    source: &Source,
     s: Settings,
     n: u16,
     bits: &mut [u64],
@@ -81,7 +82,7 @@ fn read_hop(
     db: &mut [f64],
     power: &mut [f32],
 ) -> Step {
-    let step = read_kept(fd, s, n, bits, powers, db, power);
+    let step = read_kept(source, s, n, bits, powers, db, power);
     if s.is_linear {
         watch_decibels::work_out(db, power);
     }
@@ -90,7 +91,7 @@ fn read_hop(
 
 // Nothing that is watched has as many hops as there are turns.
 fn watch_all(
-    fd: i32,
+    source: &Source,
     name: &[u8],
     s: Settings,
     n: u16,
@@ -115,7 +116,7 @@ fn watch_all(
     let mut turns = u64::MAX;
     while turns > 0 && place.is_on {
         let before = explanation_before(s, bank, bank_f);
-        let step = read_hop(fd, s, n, bits, powers, db, power);
+        let step = read_hop(source, s, n, bits, powers, db, power);
         let heard = hear(
             step,
             s.worst > 0,
@@ -131,7 +132,7 @@ fn watch_all(
             drop,
         );
         place = follow(
-            fd, name, s, place, heard, before, bank, bank_f, worst, worst_f, gate, gate_f, db,
+            source, name, s, place, heard, before, bank, bank_f, worst, worst_f, gate, gate_f, db,
             rise, drop, alive, alive_hops, events, rises,
         );
         turns -= 1;
