@@ -15,45 +15,45 @@ wrong-requires : tie.Need-wrong-requires
 wrong-requires c κs = search rules
 
 -- src/lib.rt:116:9
-returns : tie.Need-returns
+returns : tie.Need-returns-then-d
 unfolding step
-returns c = simp (c.before.if1.true, c.wrong.ensures)
+returns c = simp (c.before.if-d.true, c.wrong.ensures)
 
 -- src/lib.rt:120:9
-wrong-requires-2 : tie.Need-wrong-requires-2
+wrong-requires-2 : tie.Need-wrong-requires-then-d-gt100000
 wrong-requires-2 c κs = search rules
 
 -- src/lib.rt:120:9
-returns-2 : tie.Need-returns-2
+returns-2 : tie.Need-returns-then-d-gt100000
 unfolding step
-returns-2 c = simp (c.before.before.before.if1.false, lt-ltb _ _ c.before.if2.true, c.wrong2.ensures)
+returns-2 c = simp (c.before.before.before.if-d.false, lt-ltb _ _ c.before.if-d-gt100000.true, c.wrong-then-d-gt100000.ensures)
 
 -- src/lib.rt:123:9
 point-requires : tie.Need-point-requires
 point-requires c κs = search rules
 
 -- src/lib.rt:123:9
-returns-3 : tie.Need-returns-3
+returns-3 : tie.Need-returns-then-b-eq46
 unfolding step
-returns-3 c = simp (c.before.before.before.before.if1.false, le-ltb _ _ c.before.before.if2.false, c.before.if3.true, c.point.ensures)
+returns-3 c = simp (c.before.before.before.before.if-d.false, le-ltb _ _ c.before.before.if-d-gt100000.false, c.before.if-b-eq46.true, c.point.ensures)
 
 -- src/lib.rt:126:9
-wrong-requires-3 : tie.Need-wrong-requires-3
+wrong-requires-3 : tie.Need-wrong-requires-then-b-lt48
 wrong-requires-3 c κs = search rules
 
 -- src/lib.rt:126:9
-returns-4 : tie.Need-returns-4
+returns-4 : tie.Need-returns-then-b-lt48
 unfolding step
-returns-4 c = simp (c.before.before.before.before.before.if1.false, le-ltb _ _ c.before.before.before.if2.false, ne_eqb _ _ c.before.before.if3.false, lt-leb _ _ c.before.if4.true, c.wrong3.ensures)
+returns-4 c = simp (c.before.before.before.before.before.if-d.false, le-ltb _ _ c.before.before.before.if-d-gt100000.false, ne_eqb _ _ c.before.before.if-b-eq46.false, lt-leb _ _ c.before.if-b-lt48.true, c.wrong-then-b-lt48.ensures)
 
 -- src/lib.rt:129:9
-wrong-requires-4 : tie.Need-wrong-requires-4
+wrong-requires-4 : tie.Need-wrong-requires-then-b-gt57
 wrong-requires-4 c κs = search rules
 
 -- src/lib.rt:129:9
-returns-5 : tie.Need-returns-5
+returns-5 : tie.Need-returns-then-b-gt57
 unfolding step
-returns-5 c = simp (c.before.before.before.before.before.before.if1.false, le-ltb _ _ c.before.before.before.before.if2.false, ne_eqb _ _ c.before.before.before.if3.false, le-leb _ _ c.before.before.if4.false, lt-leb _ _ c.before.if5.true, c.wrong4.ensures)
+returns-5 c = simp (c.before.before.before.before.before.before.if-d.false, le-ltb _ _ c.before.before.before.before.if-d-gt100000.false, ne_eqb _ _ c.before.before.before.if-b-eq46.false, le-leb _ _ c.before.before.if-b-lt48.false, lt-leb _ _ c.before.if-b-gt57.true, c.wrong-then-b-gt57.ensures)
 
 -- src/lib.rt:131:14
 wide-requires : tie.Need-wide-requires
@@ -64,12 +64,12 @@ digit-requires : tie.Need-digit-requires
 digit-requires c κs = search rules
 
 -- src/lib.rt:112:1
-returns-6 : tie.Need-returns-6
+returns-6 : tie.Need-returns
 unfolding step
-returns-6 c = simp (c.before.before.before.before.before.before.before.if1.false, le-ltb _ _ c.before.before.before.before.before.if2.false, ne_eqb _ _ c.before.before.before.before.if3.false, le-leb _ _ c.before.before.before.if4.false, le-leb _ _ c.before.before.if5.false, c.before.wide.ensures.0, c.digit.ensures)
+returns-6 c = simp (c.before.before.before.before.before.before.before.if-d.false, le-ltb _ _ c.before.before.before.before.before.if-d-gt100000.false, ne_eqb _ _ c.before.before.before.before.if-b-eq46.false, le-leb _ _ c.before.before.before.if-b-lt48.false, le-leb _ _ c.before.before.if-b-gt57.false, c.before.wide.ensures.0, c.digit.ensures)
 
-pub decimal-step-spec : {M : Type 1} → statement M
-decimal-step-spec =
+pub decimal_step_spec : {M : Type 1} → statement M
+decimal_step_spec =
     tie.close
     (tie.spec
     wrong-requires

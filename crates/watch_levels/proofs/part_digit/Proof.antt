@@ -12,7 +12,7 @@ use Rattle.watch_levels.proofs.wide_unit.Reads as wide-unit-reads
 use Rattle.watch_levels.proofs.wrong.Reads as wrong-reads
 
 -- src/lib.rt:85:8
-is-too-fine-requires : tie.Need-is-too-fine-requires
+is-too-fine-requires : tie.Need-is_too_fine-requires
 is-too-fine-requires c κs = search rules
 
 -- src/lib.rt:86:9
@@ -20,29 +20,29 @@ wrong-requires : tie.Need-wrong-requires
 wrong-requires c κs = search rules
 
 -- src/lib.rt:86:9
-returns : tie.Need-returns
+returns : tie.Need-returns-then-is_too_fine
 unfolding part_digit
-returns c = simp (sym c.before.before.is-too-fine.ensures ∙ c.before.if1.true, c.wrong.ensures)
+returns c = simp (sym c.before.before.is_too_fine.ensures ∙ c.before.if-is_too_fine.true, c.wrong.ensures)
 
 -- src/lib.rt:90:36
-wide-unit-requires : tie.Need-wide-unit-requires
+wide-unit-requires : tie.Need-wide_unit-requires
 wide-unit-requires c κs = search rules
 
 -- src/lib.rt:90:36
-mul-t7 : tie.Need-overflow-mul-t7
-mul-t7 c = record { fits = omega (arith, row c.wide-unit.result c.before.before.before.args.digit 256 (omega arith)) }
+mul-t7 : tie.Need-overflow_mul-result
+mul-t7 c = record { fits = omega (arith, row c.wide_unit.result c.before.before.before.args.digit 256 (omega arith)) }
 
 -- src/lib.rt:90:22
-add-t8 : tie.Need-overflow-add-t8
-add-t8 c = record { fits = omega (arith, row c.wide-unit.result c.before.before.before.args.digit 256 (omega arith)) }
+add-t8 : tie.Need-overflow_add-result
+add-t8 c = record { fits = omega (arith, row c.wide_unit.result c.before.before.before.args.digit 256 (omega arith)) }
 
 -- src/lib.rt:80:1
-returns-2 : tie.Need-returns-2
+returns-2 : tie.Need-returns
 unfolding part_digit
-returns-2 c = simp (sym c.before.before.is-too-fine.ensures ∙ c.before.if1.false, c.wide-unit.ensures.0)
+returns-2 c = simp (sym c.before.before.is_too_fine.ensures ∙ c.before.if-is_too_fine.false, c.wide_unit.ensures.0)
 
-pub part-digit-spec : {M : Type 1} → statement M
-part-digit-spec =
+pub part_digit_spec : {M : Type 1} → statement M
+part_digit_spec =
     tie.close
     (tie.spec
     is-too-fine-requires

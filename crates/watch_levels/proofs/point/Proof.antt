@@ -8,18 +8,18 @@ use Rattle.watch_levels.proofs.point.Lts as lts
 use Rattle.watch_levels.proofs.wrong.Reads as wrong-reads
 
 -- src/lib.rt:58:9
-returns : tie.Need-returns
+returns : tie.Need-returns-then-d-eq1000
 unfolding pointed
-returns c = simp c.if1.true
+returns c = simp c.if-d-eq1000.true
 
 -- src/lib.rt:65:5
 wrong-requires : tie.Need-wrong-requires
 wrong-requires c κs = search rules
 
 -- src/lib.rt:54:1
-returns-2 : tie.Need-returns-2
+returns-2 : tie.Need-returns
 unfolding pointed
-returns-2 c = simp (ne_eqb _ _ c.before.if1.false, c.wrong.ensures)
+returns-2 c = simp (ne_eqb _ _ c.before.if-d-eq1000.false, c.wrong.ensures)
 
-pub point-spec : {M : Type 1} → statement M
-point-spec = tie.close (tie.spec returns wrong-requires returns-2)
+pub point_spec : {M : Type 1} → statement M
+point_spec = tie.close (tie.spec returns wrong-requires returns-2)
