@@ -14,52 +14,52 @@ use Rattle.watch_lengths.proofs.begun.Reads as begun-reads
 use Rattle.watch_lengths.proofs.list_end.Reads as list-end-reads
 use Rattle.watch_lengths.proofs.list_step.Reads as list-step-reads
 
-abbrev invariant-loop : tie.invariant-loop
+abbrev invariant-loop : tie.invariant-loop-i
 invariant-loop word lengths₀ s₀ i₀ i-end lengths s i = (i ≤ i-end) × (i-end ≡ length word) × ((lengths, s) ≡ foldl step (lengths₀, begun) (take i word))
 
-abbrev decreases-loop : tie.decreases-loop
+abbrev decreases-loop : tie.decreases-loop-i
 decreases-loop word lengths₀ s₀ i₀ i-end lengths s i = i-end - i
 
 -- src/lib.rt:99:9
-begun-requires : tie.Need-begun-requires invariant-loop decreases-loop
+begun-requires : tie.Need-begun-s-requires invariant-loop decreases-loop
 begun-requires c κs = search rules
 
 -- src/lib.rt:100:5
-loop-holds : tie.Need-loop-init invariant-loop decreases-loop
-loop-holds c = (omega arith, refl, simp c.begun.ensures)
+loop-holds : tie.Need-loop-i-init invariant-loop decreases-loop
+loop-holds c = (omega arith, refl, simp c.begun-s.ensures)
 
 -- src/lib.rt:101:26
-shared-slice-read-list-step : tie.Need-shared-slice-read-list-step invariant-loop decreases-loop
+shared-slice-read-list-step : tie.Need-bounds-word-i invariant-loop decreases-loop
 shared-slice-read-list-step c = search rules
 
 -- src/lib.rt:101:9
-list-step-requires : tie.Need-list-step-requires invariant-loop decreases-loop
+list-step-requires : tie.Need-list_step-s-requires invariant-loop decreases-loop
 list-step-requires c κs = search rules
 
 -- src/lib.rt:100:9
-add-i : tie.Need-overflow-add-i invariant-loop decreases-loop
+add-i : tie.Need-overflow_step-i invariant-loop decreases-loop
 add-i c = search rules
 
 -- src/lib.rt:100:5
-loop-less : tie.Need-loop-smaller invariant-loop decreases-loop
+loop-less : tie.Need-loop-i-smaller invariant-loop decreases-loop
 loop-less c = search rules
 
 -- src/lib.rt:100:5
-loop-again : tie.Need-loop-preserved invariant-loop decreases-loop
+loop-again : tie.Need-loop-i-preserved invariant-loop decreases-loop
 loop-again c =
-    (omega arith, c.before.before.before.before.loop.invariant.1, fold_next step (c.before.before.before.before.before.before.before.args.lengths.now, begun) (c.before.before.before.before.loop.lengths, c.before.before.before.before.loop.s) _ c.before.before.before.before.before.before.before.args.word.now c.before.before.before.before.loop.i 0 (omega arith) c.before.before.before.before.loop.invariant.2 c.list-step.ensures)
+    (omega arith, c.before.before.before.before.loop-i.invariant.1, fold_next step (c.before.before.before.before.before.before.before.args.lengths.now, begun) (c.before.before.before.before.loop-i.lengths, c.before.before.before.before.loop-i.s) _ c.before.before.before.before.before.before.before.args.word.now c.before.before.before.before.loop-i.i 0 (omega arith) c.before.before.before.before.loop-i.invariant.2 c.list_step-s.ensures)
 
 -- src/lib.rt:103:5
-list-end-requires : tie.Need-list-end-requires invariant-loop decreases-loop
+list-end-requires : tie.Need-list_end-requires invariant-loop decreases-loop
 list-end-requires c κs = search rules
 
 -- src/lib.rt:96:1
 returns : tie.Need-returns invariant-loop decreases-loop
 returns c =
-    ap counted (c.list-end.ensures ∙ ap ended (fold_done step (c.before.before.before.before.before.before.args.lengths.now, begun) (c.before.before.before.loop.lengths, c.before.before.before.loop.s) c.before.before.before.before.before.before.args.word.now c.before.before.before.loop.i (omega arith) c.before.before.before.loop.invariant.2))
+    ap counted (c.list_end.ensures ∙ ap ended (fold_done step (c.before.before.before.before.before.before.args.lengths.now, begun) (c.before.before.before.loop-i.lengths, c.before.before.before.loop-i.s) c.before.before.before.before.before.before.args.word.now c.before.before.before.loop-i.i (omega arith) c.before.before.before.loop-i.invariant.2))
 
-pub lengths-of-spec : {M : Type 1} → statement M
-lengths-of-spec =
+pub lengths_of_spec : {M : Type 1} → statement M
+lengths_of_spec =
     tie.close
     (tie.spec
     invariant-loop
