@@ -14,5 +14,5 @@ same-requires c κs = search rules
 returns : tie.Need-returns
 returns c = same_answer c.same.result c.before.before.before.args.word.now c.before.before.before.args.name.now c.same.ensures.0 c.same.ensures.1
 
-pub is-spec : {M : Type 1} → statement M
-is-spec = tie.close (tie.spec same-requires returns)
+pub is_spec : {M : Type 1} → statement M
+is_spec = tie.close (tie.spec same-requires returns)

@@ -15,12 +15,12 @@ is-requires : tie.Need-is-requires
 is-requires c κs = search rules
 
 -- src/lib.rt:228:9
-returns : tie.Need-returns
-returns c = simp (c.before.before.if1.true, c.is.ensures)
+returns : tie.Need-returns-then-due-eq-EARLY
+returns c = simp (c.before.before.if-due-eq-EARLY.true, c.is.ensures)
 
 -- src/lib.rt:224:1
-returns-2 : tie.Need-returns-2
-returns-2 c = simp (ne_eqb _ _ c.if1.false)
+returns-2 : tie.Need-returns
+returns-2 c = simp (ne_eqb _ _ c.if-due-eq-EARLY.false)
 
-pub is-none-spec : {M : Type 1} → statement M
-is-none-spec = tie.close (tie.spec slice-aggregate-is is-requires returns returns-2)
+pub is_none_spec : {M : Type 1} → statement M
+is_none_spec = tie.close (tie.spec slice-aggregate-is is-requires returns returns-2)

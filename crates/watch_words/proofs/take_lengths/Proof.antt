@@ -10,7 +10,7 @@ use Rattle.watch_lengths.proofs.lengths_of.Reads as lengths-of-reads
 use Rattle.watch_words.proofs.faulty.Reads as faulty-reads
 
 -- src/lib.rt:248:9
-lengths-of-requires : tie.Need-lengths-of-requires
+lengths-of-requires : tie.Need-lengths_of-count-requires
 lengths-of-requires c κs = search rules
 
 -- src/lib.rt:250:9
@@ -18,12 +18,12 @@ faulty-requires : tie.Need-faulty-requires
 faulty-requires c κs = search rules
 
 -- src/lib.rt:250:9
-returns : tie.Need-returns
-returns c = no-list c.before.before.before.before.before.args.s c.before.before.before.before.before.args.i _ _ _ c.before.if1.true c.faulty.ensures ∙ ap (lengths_taken c.before.before.before.before.before.args.s c.before.before.before.before.before.args.i) c.before.before.lengths-of.ensures
+returns : tie.Need-returns-then-count-eq0
+returns c = no-list c.before.before.before.before.before.args.s c.before.before.before.before.before.args.i _ _ _ c.before.if-count-eq0.true c.faulty.ensures ∙ ap (lengths_taken c.before.before.before.before.before.args.s c.before.before.before.before.before.args.i) c.before.before.lengths_of-count.ensures
 
 -- src/lib.rt:245:1
-returns-2 : tie.Need-returns-2
-returns-2 c = listed c.before.before.before.before.args.s c.before.before.before.before.args.i _ _ c.if1.false ∙ ap (lengths_taken c.before.before.before.before.args.s c.before.before.before.before.args.i) c.before.lengths-of.ensures
+returns-2 : tie.Need-returns
+returns-2 c = listed c.before.before.before.before.args.s c.before.before.before.before.args.i _ _ c.if-count-eq0.false ∙ ap (lengths_taken c.before.before.before.before.args.s c.before.before.before.before.args.i) c.before.lengths_of-count.ensures
 
-pub take-lengths-spec : {M : Type 1} → statement M
-take-lengths-spec = tie.close (tie.spec lengths-of-requires faulty-requires returns returns-2)
+pub take_lengths_spec : {M : Type 1} → statement M
+take_lengths_spec = tie.close (tie.spec lengths-of-requires faulty-requires returns returns-2)

@@ -4,47 +4,47 @@ use Rattle.watch_words.proofs.Takes.{after-fault, any-due, lengths-due, channel-
 use Rattle.watch_words.proofs.take_word.Statement.{statement}
 use Rattle.watch_words.proofs.take_word.Tie as tie
 
-returns : tie.Need-returns
+returns : tie.Need-returns-then-s-ne-NOTHING
 returns c = let a = c.before.before.before.args in
-    after-fault a.s a.i a.lengths.now a.word.now c.if1.true
+    after-fault a.s a.i a.lengths.now a.word.now c.if-s-ne-NOTHING.true
 
-take-any-requires : tie.Need-take-any-requires
+take-any-requires : tie.Need-take_any-requires
 take-any-requires c κs = search rules
 
-returns-2 : tie.Need-returns-2
+returns-2 : tie.Need-returns-then-s-eq-ANY
 returns-2 c = let a = c.before.before.before.before.before.before.args in
-    any-due a.s a.i a.lengths.now a.word.now _ c.before.before.before.if1.false c.before.if2.true c.take-any.ensures
+    any-due a.s a.i a.lengths.now a.word.now _ c.before.before.before.if-s-ne-NOTHING.false c.before.if-s-eq-ANY.true c.take_any.ensures
 
-take-lengths-requires : tie.Need-take-lengths-requires
+take-lengths-requires : tie.Need-take_lengths-requires
 take-lengths-requires c κs = search rules
 
-returns-3 : tie.Need-returns-3
+returns-3 : tie.Need-returns-then-s-eq-LENGTHS
 returns-3 c = let a = c.before.before.before.before.before.before.before.before.before.args in
-    lengths-due a.s a.i a.lengths.now a.word.now _ c.before.before.before.before.before.before.if1.false c.before.before.if3.true c.take-lengths.ensures
+    lengths-due a.s a.i a.lengths.now a.word.now _ c.before.before.before.before.before.before.if-s-ne-NOTHING.false c.before.before.if-s-eq-LENGTHS.true c.take_lengths.ensures
 
-take-channel-requires : tie.Need-take-channel-requires
+take-channel-requires : tie.Need-take_channel-requires
 take-channel-requires c κs = search rules
 
-returns-4 : tie.Need-returns-4
+returns-4 : tie.Need-returns-then-s-eq-EXPLAIN
 returns-4 c = let a = c.before.before.before.before.before.before.before.before.before.before.args in
-    channel-due a.s a.i a.lengths.now a.word.now _ c.before.before.before.before.before.before.before.if1.false c.before.if4.true c.take-channel.ensures
+    channel-due a.s a.i a.lengths.now a.word.now _ c.before.before.before.before.before.before.before.if-s-ne-NOTHING.false c.before.if-s-eq-EXPLAIN.true c.take_channel.ensures
 
-take-span-requires : tie.Need-take-span-requires
+take-span-requires : tie.Need-take_span-requires
 take-span-requires c κs = search rules
 
-returns-5 : tie.Need-returns-5
+returns-5 : tie.Need-returns-then-s-eq-WORST
 returns-5 c = let a = c.before.before.before.before.before.before.before.before.before.before.before.before.args in
-    span-due a.s a.i a.lengths.now a.word.now _ c.before.before.before.before.before.before.before.before.before.if1.false c.before.if5.true c.take-span.ensures
+    span-due a.s a.i a.lengths.now a.word.now _ c.before.before.before.before.before.before.before.before.before.if-s-ne-NOTHING.false c.before.if-s-eq-WORST.true c.take_span.ensures
 
-take-level-requires : tie.Need-take-level-requires
+take-level-requires : tie.Need-take_level-requires
 take-level-requires c κs = search rules
 
-returns-6 : tie.Need-returns-6
+returns-6 : tie.Need-returns
 returns-6 c = let a = c.before.before.before.before.before.before.before.before.before.before.before.before.args in
-    level-due a.s a.i a.lengths.now a.word.now _ c.before.before.before.before.before.before.before.before.before.if1.false c.before.before.before.before.before.before.before.if2.false c.before.before.before.before.before.if3.false c.before.before.before.if4.false c.before.if5.false c.take_level.ensures
+    level-due a.s a.i a.lengths.now a.word.now _ c.before.before.before.before.before.before.before.before.before.if-s-ne-NOTHING.false c.before.before.before.before.before.before.before.if-s-eq-ANY.false c.before.before.before.before.before.if-s-eq-LENGTHS.false c.before.before.before.if-s-eq-EXPLAIN.false c.before.if-s-eq-WORST.false c.take_level.ensures
 
-pub take-word-spec : {M : Type 1} → statement M
-take-word-spec =
+pub take_word_spec : {M : Type 1} → statement M
+take_word_spec =
     tie.close
     (tie.spec
     returns

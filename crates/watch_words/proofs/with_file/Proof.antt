@@ -12,14 +12,14 @@ faulty-requires : tie.Need-faulty-requires
 faulty-requires c κs = search rules
 
 -- src/lib.rt:174:9
-returns : tie.Need-returns
+returns : tie.Need-returns-then-s-ne0
 unfolding with_file
-returns c = simp (ne_eqb _ _ c.before.if1.true, c.faulty.ensures)
+returns c = simp (ne_eqb _ _ c.before.if-s-ne0.true, c.faulty.ensures)
 
 -- src/lib.rt:170:1
-returns-2 : tie.Need-returns-2
+returns-2 : tie.Need-returns
 unfolding with_file
-returns-2 c = simp c.if1.false
+returns-2 c = simp c.if-s-ne0.false
 
-pub with-file-spec : {M : Type 1} → statement M
-with-file-spec = tie.close (tie.spec faulty-requires returns returns-2)
+pub with_file_spec : {M : Type 1} → statement M
+with_file_spec = tie.close (tie.spec faulty-requires returns returns-2)
