@@ -5,23 +5,23 @@ use Rattle.watch_names.proofs.put_change.Tie as tie
 slice-aggregate-put-text : tie.Need-slice-aggregate-put-text
 slice-aggregate-put-text c = search rules
 
-put-text-requires : tie.Need-put-text-requires
+put-text-requires : tie.Need-put_text-requires
 put-text-requires c κs = search rules
 
-returns : tie.Need-returns
-returns c = simp c.before.before.before.if1.true c.put-text.ensures
+returns : tie.Need-returns-then-is_alive
+returns c = simp c.before.before.before.if-is_alive.true c.put_text.ensures
 
 slice-aggregate-put-text-2 : tie.Need-slice-aggregate-put-text-2
 slice-aggregate-put-text-2 c = search rules
 
-put-text-requires-2 : tie.Need-put-text-requires-2
+put-text-requires-2 : tie.Need-put_text-requires-2
 put-text-requires-2 c κs = search rules
 
-returns-2 : tie.Need-returns-2
-returns-2 c = simp c.before.before.before.if1.false c.put-text2.ensures
+returns-2 : tie.Need-returns
+returns-2 c = simp c.before.before.before.if-is_alive.false c.put_text-2.ensures
 
-pub put-change-spec : {M : Type 1} → statement M
-put-change-spec =
+pub put_change_spec : {M : Type 1} → statement M
+put_change_spec =
     tie.close
     (tie.spec
     slice-aggregate-put-text
