@@ -2,20 +2,20 @@ use Rattle.std.proofs.Common.{rules, le-ltb, lt-ltb, ne_eqb}
 use Rattle.watch_recording.proofs.step_of.Statement.{statement}
 use Rattle.watch_recording.proofs.step_of.Tie as tie
 
-returns : tie.Need-returns
-returns c = simp c.if1.true
+returns : tie.Need-returns-then-bytes-eq0
+returns c = simp c.if-bytes-eq0.true
 
-shared-slice-read-flag : tie.Need-shared-slice-read-flag
+shared-slice-read-flag : tie.Need-bounds-bytes-0
 shared-slice-read-flag c = search rules
 
-returns-2 : tie.Need-returns-2
-returns-2 c = simp (ne_eqb _ _ c.before.before.if1.false, lt-ltb _ _ c.if2.true)
+returns-2 : tie.Need-returns-then-flag-gt1
+returns-2 c = simp (ne_eqb _ _ c.before.before.if-bytes-eq0.false, lt-ltb _ _ c.if-flag-gt1.true)
 
-returns-3 : tie.Need-returns-3
-returns-3 c = simp (ne_eqb _ _ c.before.before.before.if1.false, le-ltb _ _ c.before.if2.false, lt-ltb _ _ c.if3.true)
+returns-3 : tie.Need-returns-then-bytes-size
+returns-3 c = simp (ne_eqb _ _ c.before.before.before.if-bytes-eq0.false, le-ltb _ _ c.before.if-flag-gt1.false, lt-ltb _ _ c.if-bytes-size.true)
 
-returns-4 : tie.Need-returns-4
-returns-4 c = simp (ne_eqb _ _ c.before.before.before.if1.false, le-ltb _ _ c.before.if2.false, le-ltb _ _ c.if3.false)
+returns-4 : tie.Need-returns
+returns-4 c = simp (ne_eqb _ _ c.before.before.before.if-bytes-eq0.false, le-ltb _ _ c.before.if-flag-gt1.false, le-ltb _ _ c.if-bytes-size.false)
 
-pub step-of-spec : {M : Type 1} → statement M
-step-of-spec = tie.close (tie.spec returns shared-slice-read-flag returns-2 returns-3 returns-4)
+pub step_of_spec : {M : Type 1} → statement M
+step_of_spec = tie.close (tie.spec returns shared-slice-read-flag returns-2 returns-3 returns-4)
