@@ -31,13 +31,13 @@ returns : tie.Need-returns-in-0
 returns c = simp c.before.before.before.in-0.keys1 c.put_text.ensures
 
 returns-2 : tie.Need-returns-in-1
-returns-2 c = simp c.before.before.before.in-0.keys2 c.put_text-in-1.ensures
+returns-2 c = simp c.before.before.before.before.in-1.keys2 c.put_text-in-1.ensures
 
 returns-3 : tie.Need-returns-in-2
-returns-3 c = simp c.before.before.before.in-0.keys3 c.put_text-in-2.ensures
+returns-3 c = simp c.before.before.before.before.in-2.keys3 c.put_text-in-2.ensures
 
 returns-4 : tie.Need-returns-in_default
-returns-4 c = simp (ne_eqb _ _ c.before.before.before.in-0.rest.0.0.1, ne_eqb _ _ c.before.before.before.in-0.rest.0.1, ne_eqb _ _ c.before.before.before.in-0.rest.1) c.put_text-in_default.ensures
+returns-4 c = simp (ne_eqb _ _ c.before.before.before.before.in_default.rest.0.0.1, ne_eqb _ _ c.before.before.before.in-0.rest.0.1, ne_eqb _ _ c.before.before.before.in-0.rest.1) c.put_text-in_default.ensures
 
 pub put_event_spec : {M : Type 1} → statement M
 put_event_spec =

@@ -65,31 +65,31 @@ returns : tie.Need-returns-in-1
 returns c = simp c.before.before.before.in-1.keys1 c.put_text.ensures
 
 returns-2 : tie.Need-returns-in-2
-returns-2 c = simp c.before.before.before.in-1.keys2 c.put_text-in-2.ensures
+returns-2 c = simp c.before.before.before.before.in-2.keys2 c.put_text-in-2.ensures
 
 returns-3 : tie.Need-returns-in-3
-returns-3 c = simp c.before.before.before.in-1.keys3 c.put_text-in-3.ensures
+returns-3 c = simp c.before.before.before.before.in-3.keys3 c.put_text-in-3.ensures
 
 returns-4 : tie.Need-returns-in-4
-returns-4 c = simp c.before.before.before.in-1.keys4 c.put_text-in-4.ensures
+returns-4 c = simp c.before.before.before.before.in-4.keys4 c.put_text-in-4.ensures
 
 returns-5 : tie.Need-returns-in-5
-returns-5 c = simp c.before.before.before.in-1.keys5 c.put_text-in-5.ensures
+returns-5 c = simp c.before.before.before.before.in-5.keys5 c.put_text-in-5.ensures
 
 returns-6 : tie.Need-returns-in-6
-returns-6 c = simp c.before.before.before.in-1.keys6 c.put_text-in-6.ensures
+returns-6 c = simp c.before.before.before.before.in-6.keys6 c.put_text-in-6.ensures
 
 returns-7 : tie.Need-returns-in-7
-returns-7 c = simp c.before.before.before.in-1.keys7 c.put_text-in-7.ensures
+returns-7 c = simp c.before.before.before.before.in-7.keys7 c.put_text-in-7.ensures
 
 returns-8 : tie.Need-returns-in-8
-returns-8 c = simp c.before.before.before.in-1.keys8 c.put_text-in-8.ensures
+returns-8 c = simp c.before.before.before.before.in-8.keys8 c.put_text-in-8.ensures
 
 returns-9 : tie.Need-returns-in-9
-returns-9 c = simp c.before.before.before.in-1.keys9 c.put_text-in-9.ensures
+returns-9 c = simp c.before.before.before.before.in-9.keys9 c.put_text-in-9.ensures
 
 returns-10 : tie.Need-returns-in_default
-returns-10 c = simp (ne_eqb _ _ c.before.before.in-1.rest.0.0.0.0.0.0.0.0.1, ne_eqb _ _ c.before.before.in-1.rest.0.0.0.0.0.0.0.1, ne_eqb _ _ c.before.before.in-1.rest.0.0.0.0.0.0.1, ne_eqb _ _ c.before.before.in-1.rest.0.0.0.0.0.1, ne_eqb _ _ c.before.before.in-1.rest.0.0.0.0.1, ne_eqb _ _ c.before.before.in-1.rest.0.0.0.1, ne_eqb _ _ c.before.before.in-1.rest.0.0.1, ne_eqb _ _ c.before.before.in-1.rest.0.1, ne_eqb _ _ c.before.before.in-1.rest.1) c.put_request_refusal.ensures
+returns-10 c = simp (ne_eqb _ _ c.before.before.in_default.rest.0.0.0.0.0.0.0.0.1, ne_eqb _ _ c.before.before.in-1.rest.0.0.0.0.0.0.0.1, ne_eqb _ _ c.before.before.in-1.rest.0.0.0.0.0.0.1, ne_eqb _ _ c.before.before.in-1.rest.0.0.0.0.0.1, ne_eqb _ _ c.before.before.in-1.rest.0.0.0.0.1, ne_eqb _ _ c.before.before.in-1.rest.0.0.0.1, ne_eqb _ _ c.before.before.in-1.rest.0.0.1, ne_eqb _ _ c.before.before.in-1.rest.0.1, ne_eqb _ _ c.before.before.in-1.rest.1) c.put_request_refusal.ensures
 
 pub put_refusal_spec : {M : Type 1} → statement M
 put_refusal_spec =

@@ -56,25 +56,25 @@ returns : tie.Need-returns-in-10
 returns c = simp c.before.before.before.in-10.keys1 c.put_text.ensures
 
 returns-2 : tie.Need-returns-in-11
-returns-2 c = simp c.before.before.before.in-10.keys2 c.put_text-in-11.ensures
+returns-2 c = simp c.before.before.before.before.in-11.keys2 c.put_text-in-11.ensures
 
 returns-3 : tie.Need-returns-in-12
-returns-3 c = simp c.before.before.before.in-10.keys3 c.put_text-in-12.ensures
+returns-3 c = simp c.before.before.before.before.in-12.keys3 c.put_text-in-12.ensures
 
 returns-4 : tie.Need-returns-in-13
-returns-4 c = simp c.before.before.before.in-10.keys4 c.put_text-in-13.ensures
+returns-4 c = simp c.before.before.before.before.in-13.keys4 c.put_text-in-13.ensures
 
 returns-5 : tie.Need-returns-in-14
-returns-5 c = simp c.before.before.before.in-10.keys5 c.put_text-in-14.ensures
+returns-5 c = simp c.before.before.before.before.in-14.keys5 c.put_text-in-14.ensures
 
 returns-6 : tie.Need-returns-in-15
-returns-6 c = simp c.before.before.before.in-10.keys6 c.put_text-in-15.ensures
+returns-6 c = simp c.before.before.before.before.in-15.keys6 c.put_text-in-15.ensures
 
 returns-7 : tie.Need-returns-in-16
-returns-7 c = simp c.before.before.before.in-10.keys7 c.put_text-in-16.ensures
+returns-7 c = simp c.before.before.before.before.in-16.keys7 c.put_text-in-16.ensures
 
 returns-8 : tie.Need-returns-in_default
-returns-8 c = simp (ne_eqb _ _ c.before.before.before.in-10.rest.0.0.0.0.0.0.1, ne_eqb _ _ c.before.before.before.in-10.rest.0.0.0.0.0.1, ne_eqb _ _ c.before.before.before.in-10.rest.0.0.0.0.1, ne_eqb _ _ c.before.before.before.in-10.rest.0.0.0.1, ne_eqb _ _ c.before.before.before.in-10.rest.0.0.1, ne_eqb _ _ c.before.before.before.in-10.rest.0.1, ne_eqb _ _ c.before.before.before.in-10.rest.1) c.put_text-in_default.ensures
+returns-8 c = simp (ne_eqb _ _ c.before.before.before.before.in_default.rest.0.0.0.0.0.0.1, ne_eqb _ _ c.before.before.before.in-10.rest.0.0.0.0.0.1, ne_eqb _ _ c.before.before.before.in-10.rest.0.0.0.0.1, ne_eqb _ _ c.before.before.before.in-10.rest.0.0.0.1, ne_eqb _ _ c.before.before.before.in-10.rest.0.0.1, ne_eqb _ _ c.before.before.before.in-10.rest.0.1, ne_eqb _ _ c.before.before.before.in-10.rest.1) c.put_text-in_default.ensures
 
 pub put_request_refusal_spec : {M : Type 1} → statement M
 put_request_refusal_spec =

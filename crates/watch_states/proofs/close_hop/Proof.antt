@@ -38,7 +38,7 @@ same-length-3 c = search rules
 
 returns : tie.Need-returns-then-is_slow
 returns c =
-    told _ _ _ _ _ _ _ _ _ c.before.before.before.before.before.before.before.before.before.before.before.before.step_states.ensures c.before.before.before.before.before.before.before.count_set.ensures c.before.before.before.before.if-is_slow.true c.before.before.clear.ensures
+    told _ _ _ _ _ _ _ _ _ c.before.before.before.before.before.before.before.before.before.before.before.step_states.ensures c.before.before.before.before.before.before.before.count_set.ensures c.before.before.before.before.if-is_slow.true c.before.before.clear.ensures
 
 same-length-4 : tie.Need-shape_of-alive-else-is_slow
 same-length-4 c = search rules
@@ -47,7 +47,7 @@ same-length-5 : tie.Need-shape_of-alive_hops-else-is_slow
 same-length-5 c = search rules
 
 returns-2 : tie.Need-returns-else-is_slow
-returns-2 c = kept _ _ _ _ _ _ _ _ _ c.before.before.before.before.before.before.before.before.step_states.ensures c.before.before.before.count_set.ensures c.if-is_slow.false refl
+returns-2 c = kept _ _ _ _ _ _ _ _ _ c.before.before.before.before.before.before.before.step_states.ensures c.before.before.before.count_set.ensures c.if-is_slow.false refl
 
 pub close_hop_spec : {M : Type 1} → statement M
 close_hop_spec =

@@ -88,67 +88,67 @@ with-file-requires c κs = search rules
 
 returns : tie.Need-returns-in-Help
 unfolding any_taken
-returns c = let s = c.before.before.before.before.before.args in
+returns c = let s = c.before.before.before.before.args in
     c.with_printing.ensures ∙ ap (any_taken s.s s.i) (sym c.before.enum_told-1.given.1 ∙ c.before.before.before.word_of.ensures)
 
 returns-2 : tie.Need-returns-in-Csv
 unfolding any_taken
-returns-2 c = let s = c.before.before.before.before.before.args in
+returns-2 c = let s = c.before.before.before.before.args in
     c.with_printing-in-Csv.ensures ∙ ap (any_taken s.s s.i) (sym c.before.enum_told-in-Csv-1.given.1 ∙ c.before.before.before.word_of.ensures)
 
 returns-3 : tie.Need-returns-in-Reference
 unfolding any_taken
-returns-3 c = let s = c.before.before.before.before.before.args in
+returns-3 c = let s = c.before.before.before.before.args in
     c.with_printing-in-Reference.ensures ∙ ap (any_taken s.s s.i) (sym c.before.enum_told-in-Reference-1.given.1 ∙ c.before.before.before.word_of.ensures)
 
 returns-4 : tie.Need-returns-in-Log
 unfolding any_taken
-returns-4 c = let s = c.before.before.before.before.before.args in
+returns-4 c = let s = c.before.before.before.before.args in
     c.with_log.ensures ∙ ap (any_taken s.s s.i) (sym c.before.enum_told-in-Log-1.given.1 ∙ c.before.before.before.word_of.ensures)
 
 returns-5 : tie.Need-returns-in-Linear
 unfolding any_taken
-returns-5 c = let s = c.before.before.before.before.before.args in
+returns-5 c = let s = c.before.before.before.before.args in
     c.with_linear.ensures ∙ ap (any_taken s.s s.i) (sym c.before.enum_told-in-Linear-1.given.1 ∙ c.before.before.before.word_of.ensures)
 
 returns-6 : tie.Need-returns-in-On
 unfolding any_taken
-returns-6 c = let s = c.before.before.before.before.before.args in
+returns-6 c = let s = c.before.before.before.before.args in
     c.awaiting.ensures ∙ ap (any_taken s.s s.i) (sym c.before.enum_told-in-On-1.given.1 ∙ c.before.before.before.word_of.ensures)
 
 returns-7 : tie.Need-returns-in-Off
 unfolding any_taken
-returns-7 c = let s = c.before.before.before.before.before.args in
+returns-7 c = let s = c.before.before.before.before.args in
     c.awaiting-in-Off.ensures ∙ ap (any_taken s.s s.i) (sym c.before.enum_told-in-Off-1.given.1 ∙ c.before.before.before.word_of.ensures)
 
 returns-8 : tie.Need-returns-in-Early
 unfolding any_taken
-returns-8 c = let s = c.before.before.before.before.before.args in
+returns-8 c = let s = c.before.before.before.before.args in
     c.awaiting-in-Early.ensures ∙ ap (any_taken s.s s.i) (sym c.before.enum_told-in-Early-1.given.1 ∙ c.before.before.before.word_of.ensures)
 
 returns-9 : tie.Need-returns-in-Lengths
 unfolding any_taken
-returns-9 c = let s = c.before.before.before.before.before.args in
+returns-9 c = let s = c.before.before.before.before.args in
     c.awaiting-in-Lengths.ensures ∙ ap (any_taken s.s s.i) (sym c.before.enum_told-in-Lengths-1.given.1 ∙ c.before.before.before.word_of.ensures)
 
 returns-10 : tie.Need-returns-in-Explain
 unfolding any_taken
-returns-10 c = let s = c.before.before.before.before.before.args in
+returns-10 c = let s = c.before.before.before.before.args in
     c.awaiting-in-Explain.ensures ∙ ap (any_taken s.s s.i) (sym c.before.enum_told-in-Explain-1.given.1 ∙ c.before.before.before.word_of.ensures)
 
 returns-11 : tie.Need-returns-in-Worst
 unfolding any_taken
-returns-11 c = let s = c.before.before.before.before.before.args in
+returns-11 c = let s = c.before.before.before.before.args in
     c.awaiting-in-Worst.ensures ∙ ap (any_taken s.s s.i) (sym c.before.enum_told-in-Worst-1.given.1 ∙ c.before.before.before.word_of.ensures)
 
 returns-12 : tie.Need-returns-in-Unknown
 unfolding any_taken
-returns-12 c = let s = c.before.before.before.before.before.args in
+returns-12 c = let s = c.before.before.before.before.args in
     c.faulty.ensures ∙ ap (any_taken s.s s.i) (sym c.before.enum_told-in-Unknown-1.given.1 ∙ c.before.before.before.word_of.ensures)
 
 returns-13 : tie.Need-returns-in-File
 unfolding any_taken
-returns-13 c = let s = c.before.before.before.before.before.args in
+returns-13 c = let s = c.before.before.before.before.args in
     c.with_file.ensures ∙ ap (any_taken s.s s.i) (sym c.before.enum_told-in-File-1.given.1 ∙ c.before.before.before.word_of.ensures)
 
 pub take_any_spec : {M : Type 1} → statement M
