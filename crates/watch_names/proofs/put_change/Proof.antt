@@ -2,17 +2,11 @@ use borrow.Author.Rules.{rules}
 use Rattle.watch_names.proofs.put_change.Statement.{statement}
 use Rattle.watch_names.proofs.put_change.Tie as tie
 
-slice-aggregate-put-text : tie.Need-slice-aggregate-put-text
-slice-aggregate-put-text c = search rules
-
 put-text-requires : tie.Need-put_text-requires
 put-text-requires c κs = search rules
 
 returns : tie.Need-returns-then-is_alive
 returns c = simp c.before.before.before.if-is_alive.true c.put_text.ensures
-
-slice-aggregate-put-text-2 : tie.Need-slice-aggregate-put-text-2
-slice-aggregate-put-text-2 c = search rules
 
 put-text-requires-2 : tie.Need-put_text-requires-2
 put-text-requires-2 c κs = search rules
@@ -24,9 +18,7 @@ pub put_change_spec : {M : Type 1} → statement M
 put_change_spec =
     tie.close
     (tie.spec
-    slice-aggregate-put-text
     put-text-requires
     returns
-    slice-aggregate-put-text-2
     put-text-requires-2
     returns-2)
