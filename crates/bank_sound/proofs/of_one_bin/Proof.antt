@@ -13,37 +13,37 @@ use Rattle.bank_sound.proofs.of_one_bin.Tie as tie
 first : (c : tie.Start) → get_or c.args.chan.now 0 0 < bins
 first c = entry-below c.args.chan.now 0 c.requires.1 (omega arith)
 
-shared-slice-read-first : tie.Need-shared-slice-read-first
+shared-slice-read-first : tie.Need-bounds-chan-0
 shared-slice-read-first c = search rules
 
-cast-first : tie.Need-overflow-cast-first
+cast-first : tie.Need-overflow_cast-first
 cast-first c = omega (arith, first c.before.before)
 
-add-if1 : tie.Need-overflow-add-if1
+add-if1 : tie.Need-overflow_add-first
 add-if1 c = omega (arith, first c.before.before)
 
-mul-if1 : tie.Need-overflow-mul-if1
+mul-if1 : tie.Need-offset_bounds-chan-first
 mul-if1 c = omega (arith, first c.before.before)
 
-shared-slice-read-if1 : tie.Need-shared-slice-read-if1
+shared-slice-read-if1 : tie.Need-bounds-chan-first
 shared-slice-read-if1 c = omega (arith, first c.before.before.before)
 
-cast-if1 : tie.Need-overflow-cast-if1
+cast-if1 : tie.Need-overflow_cast-filled
 cast-if1 c = search rules
 
-returns : tie.Need-returns
+returns : tie.Need-returns-then-chan-first
 unfolding of_one_bin
-returns c = simp (ne_eqb _ _ c.if1.true)
+returns c = simp (ne_eqb _ _ c.if-chan-first.true)
 
-other-entries-requires : tie.Need-other-entries-requires
+other-entries-requires : tie.Need-other_entries-requires
 other-entries-requires c κs = search rules
 
-returns-2 : tie.Need-returns-2
+returns-2 : tie.Need-returns
 unfolding of_one_bin
-returns-2 c = simp (eq-eqb _ _ c.before.if1.false, c.other_entries.ensures)
+returns-2 c = simp (eq-eqb _ _ c.before.if-chan-first.false, c.other_entries.ensures)
 
-pub of-one-bin-spec : {M : Type 1} → statement M
-of-one-bin-spec =
+pub of_one_bin_spec : {M : Type 1} → statement M
+of_one_bin_spec =
     tie.close
     (tie.spec
     shared-slice-read-first
