@@ -9,16 +9,16 @@ use borrow.Author.Rules.{rules}
 use Rattle.log_read.proofs.is_set.Statement.{statement}
 use Rattle.log_read.proofs.is_set.Tie as tie
 
-add-byte : tie.Need-overflow-add-byte
+add-byte : tie.Need-overflow_add-byte
 add-byte c = search rules
 
-shared-slice-read-byte : tie.Need-shared-slice-read-byte
+shared-slice-read-byte : tie.Need-bounds-log-at
 shared-slice-read-byte c = search rules
 
-cast-result : tie.Need-overflow-cast-result
+cast-result : tie.Need-overflow_cast-result
 cast-result c = search rules
 
-shr-result : tie.Need-overflow-shr-result
+shr-result : tie.Need-overflow_shr-result
 shr-result c = search rules
 
 returns : tie.Need-returns
@@ -29,5 +29,5 @@ returns c =
     ∙ ap₂ (λ (i j : ℕ). bit_at (get_or a.log.now i 0) j) (let z : a.at + a.k / 8 ≡ (8 * a.at + a.k) / 8 = omega arith in z)
     (let z : a.k % 8 ≡ (8 * a.at + a.k) % 8 = omega arith in z)
 
-pub is-set-spec : {M : Type 1} → statement M
-is-set-spec = tie.close (tie.spec add-byte shared-slice-read-byte cast-result shr-result returns)
+pub is_set_spec : {M : Type 1} → statement M
+is_set_spec = tie.close (tie.spec add-byte shared-slice-read-byte cast-result shr-result returns)
