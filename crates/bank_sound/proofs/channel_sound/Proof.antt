@@ -1,5 +1,5 @@
-use mathlib.Core.Path.{◌≡◌, refl, sym, ◌∙◌}
-use mathlib.Core.Bool.{true}
+use mathlib.Core.Path.{ap, ◌≡◌, refl, sym, ◌∙◌}
+use mathlib.Core.Bool.{not, true}
 use mathlib.Core.List.{List}
 use Prim.Native.Nat.{ℕ}
 use borrow.Author.Tests.{not-true, not-false}
@@ -17,7 +17,7 @@ S c = c.before.before.before.before.before.before.args.chan.now
 
 fields : (c : tie.Else-stray_entries-ne0) → fields_of (S c.before.before.before) ≡ true
 fields c = let e = c.before.before in
-    sym e.before.fields_sound.ensures ∙ not-false _ e.if-not-fields_sound.false
+    sym e.before.fields_sound.ensures ∙ not-false _ (ap not e.if-not-fields_sound.false)
 
 none : (c : tie.Else-stray_entries-ne0) → stray_entries (S c.before.before.before) ≡ 0
 none c = sym c.before.stray_entries.ensures ∙ c.if-stray_entries-ne0.false
@@ -38,7 +38,7 @@ fields-sound-requires : tie.Need-fields_sound-requires
 fields-sound-requires c κs = search rules
 
 returns : tie.Need-returns-then-not-fields_sound
-returns c = fields-fail (S c.before) (sym c.before.fields_sound.ensures ∙ not-true _ c.if-not-fields_sound.true)
+returns c = fields-fail (S c.before) (sym c.before.fields_sound.ensures ∙ not-true _ (ap not c.if-not-fields_sound.true))
 
 stray-entries-requires : tie.Need-stray_entries-requires
 stray-entries-requires c κs = search rules
