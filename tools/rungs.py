@@ -4,8 +4,9 @@
 DEPTH_DB, TOP_DB = 260, 400
 
 HEAD = """// R-13: the whole ladder, -{depth} to {top} dB in eighths of a dB, as one constant table. Written by tools/rungs.py.
-ghost use mathlib.Core.Path.{{_≡_}};
-ghost use Rattle·model.specs.Decibels.{{rungValues}};
+ghost use Rattle.std.specs.Prelude.{{◌≡◌}};
+ghost use Rattle.model.specs.Decibels.{{rung_values}};
+
 use model::layout::RUNG_COUNT;
 
 const RUNGS: [f64; RUNG_COUNT] = [
@@ -16,7 +17,7 @@ TAIL = """];
 // Every call writes the table out anew: have one caller, and lend it on. `_lowest` keeps the borrow checker from walking this function: its
 // walk of an array of floats grows with the square of the length and ends in the prover's limit of steps. proofs/table/rungs walks it by hand.
 pub fn rungs() -> [f64; RUNG_COUNT]
-    ensures { λ t. ⌜ t ≡ rungValues ⌝ }
+    ensures { result ≡ rung_values }
 {
     let all = &RUNGS;
     let _lowest = &all[0];
