@@ -8,19 +8,19 @@ use borrow.Author.Rules.{rules}
 use Rattle.cursors.proofs.Cursor.middle.Statement.{statement}
 use Rattle.cursors.proofs.Cursor.middle.Tie as tie
 
-add-place : tie.Need-overflow-add-place
+add-place : tie.Need-overflow_add-place
 add-place c = search rules
 
-returns : tie.Need-returns
+returns : tie.Need-returns-then-at-m
 returns c =
     let s = c.before.args.self in
     let e : s.at - s.m ≡ middle_of s.m s.at = omega (arith, past (2 * s.m) (s.at + s.m) (omega arith) (omega arith)) in
     (λ i. record { cursor = s; place = e i }, omega arith)
 
-returns-2 : tie.Need-returns-2
+returns-2 : tie.Need-returns-else-at-m
 returns-2 c =
     let s = c.before.args.self in
     (λ i. record { cursor = s; place = within (2 * s.m) (s.at + s.m) (omega arith) i }, omega arith)
 
-pub middle-spec : {M : Type 1} → statement M
-middle-spec = tie.close (tie.spec add-place returns returns-2)
+pub middle_spec : {M : Type 1} → statement M
+middle_spec = tie.close (tie.spec add-place returns returns-2)
