@@ -1,4 +1,6 @@
 // Document 01, "Windows, ladder, gate": the cursor of the windows of one length, as a value.
+#![tactic(auto)]
+
 ghost use Rattle.std.specs.Prelude.{◌≡◌, ◌*◌, ◌<◌};
 ghost use Rattle.cursors.specs.Cursors.{CursorFits, advanced_of, middle_from};
 

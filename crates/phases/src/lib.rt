@@ -1,4 +1,6 @@
 // Document 01, "One hop", the phase of a bank: every so many hops, at phase 0, a slow one. A bank update steps it, and a run of hops looks ahead by it.
+#![tactic(auto)]
+
 ghost use Rattle.std.specs.Prelude.{◌≡◌, ◌+◌, ◌%◌, ◌<◌};
 ghost use Rattle.model.specs.Layout.{decimation_hops};
 
