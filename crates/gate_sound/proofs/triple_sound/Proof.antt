@@ -5,31 +5,31 @@ use borrow.Author.Rules.{rules}
 use Rattle.gate_sound.proofs.triple_sound.Statement.{statement}
 use Rattle.gate_sound.proofs.triple_sound.Tie as tie
 
-returns : tie.Need-returns
-returns c = simp (lt-leb _ _ c.if1.true)
+returns : tie.Need-returns-then-m-lt1
+returns c = simp (lt-leb _ _ c.if-m-lt1.true)
 
-returns-2 : tie.Need-returns-2
-returns-2 c = simp (le-leb _ _ c.before.if1.false, lt-leb _ _ c.if2.true)
+returns-2 : tie.Need-returns-then-m-gt375
+returns-2 c = simp (le-leb _ _ c.before.if-m-lt1.false, lt-leb _ _ c.if-m-gt375.true)
 
-mul-end : tie.Need-overflow-mul-end
+mul-end : tie.Need-overflow_mul-end
 mul-end c = search rules
 
-returns-3 : tie.Need-returns-3
-returns-3 c = simp (le-leb _ _ c.before.before.if1.false, le-leb _ _ c.before.if2.false, le-ltb _ _ c.if3.true)
+returns-3 : tie.Need-returns-then-cursor-end
+returns-3 c = simp (le-leb _ _ c.before.before.if-m-lt1.false, le-leb _ _ c.before.if-m-gt375.false, le-ltb _ _ c.if-cursor-end.true)
 
-returns-4 : tie.Need-returns-4
-returns-4 c = simp (le-leb _ _ c.before.before.before.if1.false, le-leb _ _ c.before.before.if2.false, lt-ltb _ _ c.before.if3.false, lt-leb _ _ c.if4.true)
+returns-4 : tie.Need-returns-then-filled-end
+returns-4 c = simp (le-leb _ _ c.before.before.before.if-m-lt1.false, le-leb _ _ c.before.before.if-m-gt375.false, lt-ltb _ _ c.before.if-cursor-end.false, lt-leb _ _ c.if-filled-end.true)
 
-returns-5 : tie.Need-returns-5
+returns-5 : tie.Need-returns-then-filled-end-2
 returns-5 c = let e = c.before in
     let s = e.before.before.before.before in
-    simp (le-leb _ _ e.before.before.before.if1.false, le-leb _ _ e.before.before.if2.false, lt-ltb _ _ e.before.if3.false, le-leb _ _ e.if4.false, le-ltb s.args.filled (2 * s.args.m) (omega arith))
+    simp (le-leb _ _ e.before.before.before.if-m-lt1.false, le-leb _ _ e.before.before.if-m-gt375.false, lt-ltb _ _ e.before.if-cursor-end.false, le-leb _ _ e.if-filled-end.false, le-ltb s.args.filled (2 * s.args.m) (omega arith))
 
-returns-6 : tie.Need-returns-6
+returns-6 : tie.Need-returns
 returns-6 c = let e = c.before in
     let s = e.before.before.before.before in
-    simp (le-leb _ _ e.before.before.before.if1.false, le-leb _ _ e.before.before.if2.false, lt-ltb _ _ e.before.if3.false, le-leb _ _ e.if4.false, lt-ltb s.args.filled (2 * s.args.m) (omega arith))
+    simp (le-leb _ _ e.before.before.before.if-m-lt1.false, le-leb _ _ e.before.before.if-m-gt375.false, lt-ltb _ _ e.before.if-cursor-end.false, le-leb _ _ e.if-filled-end.false, lt-ltb s.args.filled (2 * s.args.m) (omega arith))
 
-pub triple-sound-spec : {M : Type 1} → statement M
-triple-sound-spec =
+pub triple_sound_spec : {M : Type 1} → statement M
+triple_sound_spec =
     tie.close (tie.spec returns returns-2 mul-end returns-3 returns-4 returns-5 returns-6)

@@ -11,43 +11,43 @@ use Rattle.gate_sound.proofs.Sizes.{triples-are}
 use Rattle.gate_sound.proofs.triples_sound.Statement.{statement}
 use Rattle.gate_sound.proofs.triples_sound.Tie as tie
 
-abbrev invariant-loop : tie.invariant-loop
+abbrev invariant-loop : tie.invariant-loop-j
 invariant-loop gate j₀ j = (j ≤ 8) × (all_below j (sound_length gate) ≡ true)
 
-abbrev decreases-loop : tie.decreases-loop
+abbrev decreases-loop : tie.decreases-loop-j
 decreases-loop gate j₀ j = 8 - j
 
-loop-holds : tie.Need-loop-init invariant-loop decreases-loop
+loop-holds : tie.Need-loop-j-init invariant-loop decreases-loop
 unfolding all_below
 loop-holds c = (search rules, refl)
 
-length-sound-requires : tie.Need-length-sound-requires invariant-loop decreases-loop
+length-sound-requires : tie.Need-length_sound-requires invariant-loop decreases-loop
 length-sound-requires c κs = search rules
 
-returns : tie.Need-returns invariant-loop decreases-loop
+returns : tie.Need-returns-then-not-length_sound invariant-loop decreases-loop
 returns c = let q = c.before in
     let l = q.before.before in
     let u = l.before.before.args.gate.now in
-    sym (all-fails (sound_length u) 8 l.loop.j (omega arith) (sym q.length-sound.ensures ∙ not-true _ c.if1.true)) ∙ triples-are u
+    sym (all-fails (sound_length u) 8 l.loop-j.j (omega arith) (sym q.length_sound.ensures ∙ not-true _ c.if-not-length_sound.true)) ∙ triples-are u
 
-add-j : tie.Need-overflow-add-j invariant-loop decreases-loop
+add-j : tie.Need-overflow_add-j invariant-loop decreases-loop
 add-j c = search rules
 
-loop-less : tie.Need-loop-smaller invariant-loop decreases-loop
+loop-less : tie.Need-loop-j-smaller invariant-loop decreases-loop
 loop-less c = search rules
 
-loop-again : tie.Need-loop-preserved invariant-loop decreases-loop
+loop-again : tie.Need-loop-j-preserved invariant-loop decreases-loop
 loop-again c = let q = c.before in
     let l = q.before.before in
-    (omega arith, all_more (sound_length l.before.before.args.gate.now) l.loop.j l.loop.invariant.1 (sym q.length-sound.ensures ∙ not-false _ c.if1.false))
+    (omega arith, all_more (sound_length l.before.before.args.gate.now) l.loop-j.j l.loop-j.invariant.1 (sym q.length_sound.ensures ∙ not-false _ c.if-not-length_sound.false))
 
-returns-2 : tie.Need-returns-2 invariant-loop decreases-loop
+returns-2 : tie.Need-returns invariant-loop decreases-loop
 returns-2 c = let l = c.before in
     let u = l.before.before.args.gate.now in
-    all_done (sound_length u) l.loop.j 8 (omega arith) l.loop.invariant.1 ∙ triples-are u
+    all_done (sound_length u) l.loop-j.j 8 (omega arith) l.loop-j.invariant.1 ∙ triples-are u
 
-pub triples-sound-spec : {M : Type 1} → statement M
-triples-sound-spec =
+pub triples_sound_spec : {M : Type 1} → statement M
+triples_sound_spec =
     tie.close
     (tie.spec
     invariant-loop
