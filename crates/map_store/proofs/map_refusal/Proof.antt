@@ -10,31 +10,31 @@ use Rattle.map_store.proofs.map_refusal.Tie as tie
 width-requires : tie.Need-width-requires
 width-requires c κs = search rules
 
-mul-if1 : tie.Need-overflow-mul-if1
+mul-if1 : tie.Need-overflow_mul-width
 mul-if1 c = search rules
 
-returns : tie.Need-returns
+returns : tie.Need-returns-then-map-width
 returns c = let d = c.before in
     let s = d.before.before in
-    misfit s.args.n s.args.map.now (λ q. c.if1.true (q ∙ sym (ap (λ (w : ℕ). 3 * w) d.width.ensures)))
+    misfit s.args.n s.args.map.now (λ q. c.if-map-width.true (q ∙ sym (ap (λ (w : ℕ). 3 * w) d.width.ensures)))
 
-map-sound-requires : tie.Need-map-sound-requires
+map-sound-requires : tie.Need-map_sound-requires
 map-sound-requires c κs = let d = c.before in
     let s = d.before.before in
-    (s.requires.0, s.requires.1, c.if1.false ∙ ap (λ (w : ℕ). 3 * w) d.width.ensures)
+    (s.requires.0, s.requires.1, c.if-map-width.false ∙ ap (λ (w : ℕ). 3 * w) d.width.ensures)
 
-returns-2 : tie.Need-returns-2
+returns-2 : tie.Need-returns-then-not-map_sound
 returns-2 c = let e = c.before.before in
     let d = e.before in
     let s = d.before.before in
-    unsound s.args.n s.args.map.now (e.if1.false ∙ ap (λ (w : ℕ). 3 * w) d.width.ensures) (sym c.before.map-sound.ensures ∙ not-true _ c.if2.true)
+    unsound s.args.n s.args.map.now (e.if-map-width.false ∙ ap (λ (w : ℕ). 3 * w) d.width.ensures) (sym c.before.map_sound.ensures ∙ not-true _ c.if-not-map_sound.true)
 
-returns-3 : tie.Need-returns-3
+returns-3 : tie.Need-returns
 returns-3 c = let e = c.before.before in
     let d = e.before in
     let s = d.before.before in
-    is-map s.args.n s.args.map.now (e.if1.false ∙ ap (λ (w : ℕ). 3 * w) d.width.ensures) (sym c.before.map-sound.ensures ∙ not-false _ c.if2.false)
+    is-map s.args.n s.args.map.now (e.if-map-width.false ∙ ap (λ (w : ℕ). 3 * w) d.width.ensures) (sym c.before.map_sound.ensures ∙ not-false _ c.if-not-map_sound.false)
 
-pub map-refusal-spec : {M : Type 1} → statement M
-map-refusal-spec =
+pub map_refusal_spec : {M : Type 1} → statement M
+map_refusal_spec =
     tie.close (tie.spec width-requires mul-if1 returns map-sound-requires returns-2 returns-3)
