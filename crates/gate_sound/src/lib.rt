@@ -1,4 +1,6 @@
 // Whether the gate's u16 store is sound, and how long its f64 store then is.
+#![tactic(auto)]
+
 ghost use Rattle.std.specs.Prelude.{◌≡◌, true, ◌||◌, ◌≤◌, ◌<◌, eqb, length};
 ghost use Rattle.model.specs.GateStores.{m_at, look_size, gate_f_len, sound_level, sound_triple, sound_triples, new_length, sound_head, sound_gate};
 ghost use Rattle.gate_sound.specs.Checks.{unused_triple, sound_length};

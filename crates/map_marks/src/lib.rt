@@ -1,4 +1,6 @@
 // Document 02, R-12: the marks of an update or a hold, set in a lent map of n channels.
+#![tactic(auto)]
+
 ghost use Rattle.std.specs.Prelude.{◌≡◌, ◌≤◌, length};
 ghost use Rattle.laws.specs.Bits.{width};
 ghost use Rattle.model.specs.Map.{map_long, flags_set, marks_set};

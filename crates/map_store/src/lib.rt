@@ -1,4 +1,6 @@
 // Document 02, R-12: the test of a lent map of n channels and the refusals in their order. The gate, whose n this is, is the caller's to test.
+#![tactic(auto)]
+
 ghost use Rattle.std.specs.Prelude.{◌≡◌, ◌≤◌, eqb, length, replicate};
 ghost use Rattle.std.specs.Int.Bits.{bit_and};
 ghost use Rattle.model.specs.Map.{map_long, sound_map};

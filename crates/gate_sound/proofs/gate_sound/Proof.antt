@@ -1,4 +1,5 @@
-use mathlib.Core.Path.{sym, ◌∙◌}
+use mathlib.Core.Bool.{not}
+use mathlib.Core.Path.{ap, sym, ◌∙◌}
 use borrow.Author.Tests.{not-true, not-false}
 use borrow.Author.Rules.{rules}
 use Rattle.gate_sound.proofs.Sizes.{head-fails, triples-decide}
@@ -28,7 +29,7 @@ head-sound-requires c κs = search rules
 
 returns : tie.Need-returns-then-not-head_sound
 returns c = let h = c.before in
-    head-fails h.before.before.before.before.before.before.before.before.args.gate.now (sym h.head_sound.ensures ∙ not-true _ c.if-not-head_sound.true)
+    head-fails h.before.before.before.before.before.before.before.before.args.gate.now (sym h.head_sound.ensures ∙ not-true _ (ap not c.if-not-head_sound.true))
 
 triples-sound-requires : tie.Need-triples_sound-requires
 triples-sound-requires c κs = search rules
@@ -37,7 +38,7 @@ returns-2 : tie.Need-returns
 returns-2 c = let e = c.before in
     let h = e.before in
     c.triples_sound.ensures
-    ∙ triples-decide h.before.before.before.before.before.before.before.before.args.gate.now (sym h.head_sound.ensures ∙ not-false _ e.if-not-head_sound.false)
+    ∙ triples-decide h.before.before.before.before.before.before.before.before.args.gate.now (sym h.head_sound.ensures ∙ not-false _ (ap not e.if-not-head_sound.false))
 
 pub gate_sound_spec : {M : Type 1} → statement M
 gate_sound_spec =

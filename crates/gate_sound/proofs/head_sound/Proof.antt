@@ -1,4 +1,5 @@
-use mathlib.Core.Path.{sym, ◌∙◌}
+use mathlib.Core.Bool.{not}
+use mathlib.Core.Path.{ap, sym, ◌∙◌}
 use borrow.Author.Tests.{le-leb, lt-leb, not-true, not-false}
 use borrow.Author.Rules.{rules}
 use Rattle.gate_sound.proofs.head_sound.Statement.{statement}
@@ -24,17 +25,17 @@ early-sound-requires c κs = search rules
 
 returns-6 : tie.Need-returns-then-not-early_sound
 returns-6 c = let e = c.before.before in
-    simp (le-leb _ _ e.before.before.before.before.if-n-lt1.false, le-leb _ _ e.before.before.before.if-n-gt512.false, le-leb _ _ e.before.before.if-started-gt1.false, le-leb _ _ e.before.if-on-gt1600.false, le-leb _ _ e.if-off-gt1600.false, sym c.before.early_sound.ensures ∙ not-true _ c.if-not-early_sound.true)
+    simp (le-leb _ _ e.before.before.before.before.if-n-lt1.false, le-leb _ _ e.before.before.before.if-n-gt512.false, le-leb _ _ e.before.before.if-started-gt1.false, le-leb _ _ e.before.if-on-gt1600.false, le-leb _ _ e.if-off-gt1600.false, sym c.before.early_sound.ensures ∙ not-true _ (ap not c.if-not-early_sound.true))
 
 returns-7 : tie.Need-returns-then-count-lt1
 returns-7 c = let d = c.before in
     let e = d.before.before in
-    simp (le-leb _ _ e.before.before.before.before.if-n-lt1.false, le-leb _ _ e.before.before.before.if-n-gt512.false, le-leb _ _ e.before.before.if-started-gt1.false, le-leb _ _ e.before.if-on-gt1600.false, le-leb _ _ e.if-off-gt1600.false, sym d.before.early_sound.ensures ∙ not-false _ d.if-not-early_sound.false, lt-leb _ _ c.if-count-lt1.true)
+    simp (le-leb _ _ e.before.before.before.before.if-n-lt1.false, le-leb _ _ e.before.before.before.if-n-gt512.false, le-leb _ _ e.before.before.if-started-gt1.false, le-leb _ _ e.before.if-on-gt1600.false, le-leb _ _ e.if-off-gt1600.false, sym d.before.early_sound.ensures ∙ not-false _ (ap not d.if-not-early_sound.false), lt-leb _ _ c.if-count-lt1.true)
 
 returns-8 : tie.Need-returns
 returns-8 c = let d = c.before in
     let e = d.before.before in
-    simp (le-leb _ _ e.before.before.before.before.if-n-lt1.false, le-leb _ _ e.before.before.before.if-n-gt512.false, le-leb _ _ e.before.before.if-started-gt1.false, le-leb _ _ e.before.if-on-gt1600.false, le-leb _ _ e.if-off-gt1600.false, sym d.before.early_sound.ensures ∙ not-false _ d.if-not-early_sound.false, le-leb _ _ c.if-count-lt1.false)
+    simp (le-leb _ _ e.before.before.before.before.if-n-lt1.false, le-leb _ _ e.before.before.before.if-n-gt512.false, le-leb _ _ e.before.before.if-started-gt1.false, le-leb _ _ e.before.if-on-gt1600.false, le-leb _ _ e.if-off-gt1600.false, sym d.before.early_sound.ensures ∙ not-false _ (ap not d.if-not-early_sound.false), le-leb _ _ c.if-count-lt1.false)
 
 pub head_sound_spec : {M : Type 1} → statement M
 head_sound_spec =

@@ -1,4 +1,5 @@
-use mathlib.Core.Path.{sym, ◌∙◌}
+use mathlib.Core.Bool.{not}
+use mathlib.Core.Path.{ap, sym, ◌∙◌}
 use native.Mathlib.Omega.{arith}
 use borrow.Author.Tests.{not-true, not-false}
 use borrow.Author.Rules.{rules}
@@ -72,7 +73,7 @@ returns-2 : tie.Need-returns-then-not-triple_sound
 returns-2 c = let t = c.before in
     let w = t.before.before in
     let s = start w in
-    triple-fails s.args.gate.now s.args.j (omega (arith, w.wide.ensures, t.before.if-j-wide.false)) (sym t.triple_sound.ensures ∙ not-true _ c.if-not-triple_sound.true)
+    triple-fails s.args.gate.now s.args.j (omega (arith, w.wide.ensures, t.before.if-j-wide.false)) (sym t.triple_sound.ensures ∙ not-true _ (ap not c.if-not-triple_sound.true))
 
 new-length-requires : tie.Need-new_length-requires
 new-length-requires c κs = search rules
@@ -83,7 +84,7 @@ returns-3 c = let d = c.before in
     let w = t.before.before in
     let s = start w in
     c.new_length.ensures
-    ∙ new-decides s.args.gate.now s.args.j (omega (arith, w.wide.ensures, t.before.if-j-wide.false)) (sym t.triple_sound.ensures ∙ not-false _ d.if-not-triple_sound.false)
+    ∙ new-decides s.args.gate.now s.args.j (omega (arith, w.wide.ensures, t.before.if-j-wide.false)) (sym t.triple_sound.ensures ∙ not-false _ (ap not d.if-not-triple_sound.false))
 
 pub length_sound_spec : {M : Type 1} → statement M
 length_sound_spec =

@@ -1,5 +1,5 @@
-use mathlib.Core.Path.{◌≡◌, refl, sym, ◌∙◌}
-use mathlib.Core.Bool.{true}
+use mathlib.Core.Path.{ap, ◌≡◌, refl, sym, ◌∙◌}
+use mathlib.Core.Bool.{not, true}
 use Prim.Native.Nat.{◌≤◌, ◌-◌}
 use native.Mathlib.Omega.{arith}
 use borrow.Author.Tests.{not-true, not-false}
@@ -28,7 +28,7 @@ returns : tie.Need-returns-then-not-length_sound invariant-loop decreases-loop
 returns c = let q = c.before in
     let l = q.before.before in
     let u = l.before.before.args.gate.now in
-    sym (all-fails (sound_length u) 8 l.loop-j.j (omega arith) (sym q.length_sound.ensures ∙ not-true _ c.if-not-length_sound.true)) ∙ triples-are u
+    sym (all-fails (sound_length u) 8 l.loop-j.j (omega arith) (sym q.length_sound.ensures ∙ not-true _ (ap not c.if-not-length_sound.true))) ∙ triples-are u
 
 add-j : tie.Need-overflow_add-j invariant-loop decreases-loop
 add-j c = search rules
@@ -39,7 +39,7 @@ loop-less c = search rules
 loop-again : tie.Need-loop-j-preserved invariant-loop decreases-loop
 loop-again c = let q = c.before in
     let l = q.before.before in
-    (omega arith, all_more (sound_length l.before.before.args.gate.now) l.loop-j.j l.loop-j.invariant.1 (sym q.length_sound.ensures ∙ not-false _ c.if-not-length_sound.false))
+    (omega arith, all_more (sound_length l.before.before.args.gate.now) l.loop-j.j l.loop-j.invariant.1 (sym q.length_sound.ensures ∙ not-false _ (ap not c.if-not-length_sound.false)))
 
 returns-2 : tie.Need-returns invariant-loop decreases-loop
 returns-2 c = let l = c.before in

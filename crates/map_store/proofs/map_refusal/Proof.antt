@@ -1,4 +1,5 @@
 -- `map_store::map_refusal` meets its contract. Assumes nothing.
+use mathlib.Core.Bool.{not}
 use borrow.Author.Rules.{rules}
 use mathlib.Core.Path.{sym, ap, ◌∙◌}
 use Prim.Native.Nat.{ℕ, ◌*◌}
@@ -27,13 +28,13 @@ returns-2 : tie.Need-returns-then-not-map_sound
 returns-2 c = let e = c.before.before in
     let d = e.before in
     let s = d.before.before in
-    unsound s.args.n s.args.map.now (e.if-map-width.false ∙ ap (λ (w : ℕ). 3 * w) d.width.ensures) (sym c.before.map_sound.ensures ∙ not-true _ c.if-not-map_sound.true)
+    unsound s.args.n s.args.map.now (e.if-map-width.false ∙ ap (λ (w : ℕ). 3 * w) d.width.ensures) (sym c.before.map_sound.ensures ∙ not-true _ (ap not c.if-not-map_sound.true))
 
 returns-3 : tie.Need-returns
 returns-3 c = let e = c.before.before in
     let d = e.before in
     let s = d.before.before in
-    is-map s.args.n s.args.map.now (e.if-map-width.false ∙ ap (λ (w : ℕ). 3 * w) d.width.ensures) (sym c.before.map_sound.ensures ∙ not-false _ c.if-not-map_sound.false)
+    is-map s.args.n s.args.map.now (e.if-map-width.false ∙ ap (λ (w : ℕ). 3 * w) d.width.ensures) (sym c.before.map_sound.ensures ∙ not-false _ (ap not c.if-not-map_sound.false))
 
 pub map_refusal_spec : {M : Type 1} → statement M
 map_refusal_spec =

@@ -1,7 +1,7 @@
 -- `map_store::map_sound` meets its contract. Assumes nothing.
 use borrow.Author.Rules.{rules}
 use mathlib.Core.Path.{◌≡◌, sym, ap, ◌∙◌}
-use mathlib.Core.Bool.{Bool, ◌&&◌}
+use mathlib.Core.Bool.{not, Bool, ◌&&◌}
 use Prim.Native.Nat.{ℕ, ◌+◌, ◌-◌, ◌*◌}
 use lib.Dec.{eqb, ltb}
 use lib.ListN.{get_or}
@@ -64,7 +64,7 @@ clean-requires c κs = search rules
 
 returns : tie.Need-returns-then-not-clean
 returns c = let l = c.before.before.before in
-    first-fails _ _ _ (sym c.before.clean.ensures ∙ not-true _ c.if-not-clean.true) ∙ whole l
+    first-fails _ _ _ (sym c.before.clean.ensures ∙ not-true _ (ap not c.if-not-clean.true)) ∙ whole l
 
 add-clean : tie.Need-overflow_add-w
 add-clean c = search rules
@@ -81,7 +81,7 @@ clean-requires-2 c κs = search rules
 returns-2 : tie.Need-returns-then-not-clean-2
 returns-2 c = let e = c.before.before.before in
     let l = e.before.before.before in
-    second-fails _ _ _ (sym e.before.clean.ensures ∙ not-false _ e.if-not-clean.false) (sym c.before.clean-2.ensures ∙ not-true _ c.if-not-clean-2.true) ∙ whole l
+    second-fails _ _ _ (sym e.before.clean.ensures ∙ not-false _ (ap not e.if-not-clean.false)) (sym c.before.clean-2.ensures ∙ not-true _ (ap not c.if-not-clean-2.true)) ∙ whole l
 
 add-clean-2 : tie.Need-overflow_add-w-2
 add-clean-2 c = search rules
@@ -102,7 +102,7 @@ returns-3 : tie.Need-returns
 returns-3 c = let f = c.before.before in
     let e = f.before.before.before in
     let l = e.before.before.before in
-    third-says _ _ _ _ (sym e.before.clean.ensures ∙ not-false _ e.if-not-clean.false) (sym f.before.clean-2.ensures ∙ not-false _ f.if-not-clean-2.false) c.clean-3.ensures
+    third-says _ _ _ _ (sym e.before.clean.ensures ∙ not-false _ (ap not e.if-not-clean.false)) (sym f.before.clean-2.ensures ∙ not-false _ (ap not f.if-not-clean-2.false)) c.clean-3.ensures
     ∙ whole l
 
 pub map_sound_spec : {M : Type 1} → statement M
