@@ -10,54 +10,54 @@ use Rattle.gate_lengths.proofs.Distinct.{among-more, among-before}
 use Rattle.gate_lengths.proofs.seen.Statement.{statement}
 use Rattle.gate_lengths.proofs.seen.Tie as tie
 
-abbrev invariant-loop : tie.invariant-loop
+abbrev invariant-loop : tie.invariant-loop-j
 invariant-loop lengths i m j₀ j = (j ≤ i) × (among (get_or lengths i 0) (take j lengths) ≡ false)
 
-abbrev decreases-loop : tie.decreases-loop
+abbrev decreases-loop : tie.decreases-loop-j
 decreases-loop lengths i m j₀ j = i - j
 
-mul-m : tie.Need-overflow-mul-m invariant-loop decreases-loop
+mul-m : tie.Need-offset_bounds-lengths-i invariant-loop decreases-loop
 mul-m c = search rules
 
-shared-slice-read-m : tie.Need-shared-slice-read-m invariant-loop decreases-loop
+shared-slice-read-m : tie.Need-bounds-lengths-i invariant-loop decreases-loop
 shared-slice-read-m c = search rules
 
-loop-holds : tie.Need-loop-init invariant-loop decreases-loop
+loop-holds : tie.Need-loop-j-init invariant-loop decreases-loop
 loop-holds c = (search rules, refl)
 
-mul-if1 : tie.Need-overflow-mul-if1 invariant-loop decreases-loop
+mul-if1 : tie.Need-offset_bounds-lengths-j invariant-loop decreases-loop
 mul-if1 c = search rules
 
-shared-slice-read-if1 : tie.Need-shared-slice-read-if1 invariant-loop decreases-loop
+shared-slice-read-if1 : tie.Need-bounds-lengths-j invariant-loop decreases-loop
 shared-slice-read-if1 c = search rules
 
-returns : tie.Need-returns invariant-loop decreases-loop
+returns : tie.Need-returns-then-lengths-j invariant-loop decreases-loop
 returns c = let l = c.before.before.before in
     let s = l.before.before in
     let ms = s.args.lengths.now in
-    sym (among-before (get_or ms s.args.i 0) ms l.loop.j s.args.i (omega arith) (omega arith) (eq-eqb _ _ (sym c.if1.true)))
+    sym (among-before (get_or ms s.args.i 0) ms l.loop-j.j s.args.i (omega arith) (omega arith) (eq-eqb _ _ (sym c.if-lengths-j.true)))
 
-add-j : tie.Need-overflow-add-j invariant-loop decreases-loop
+add-j : tie.Need-overflow_add-j invariant-loop decreases-loop
 add-j c = search rules
 
-loop-less : tie.Need-loop-smaller invariant-loop decreases-loop
+loop-less : tie.Need-loop-j-smaller invariant-loop decreases-loop
 loop-less c = search rules
 
-loop-again : tie.Need-loop-preserved invariant-loop decreases-loop
+loop-again : tie.Need-loop-j-preserved invariant-loop decreases-loop
 loop-again c = let l = c.before.before.before in
     let s = l.before.before in
     let ms = s.args.lengths.now in
-    (omega arith, among-more (get_or ms s.args.i 0) ms l.loop.j (omega arith) l.loop.invariant.1 (ne_eqb _ _ (λ q. c.if1.false (sym q))))
+    (omega arith, among-more (get_or ms s.args.i 0) ms l.loop-j.j (omega arith) l.loop-j.invariant.1 (ne_eqb _ _ (λ q. c.if-lengths-j.false (sym q))))
 
-returns-2 : tie.Need-returns-2 invariant-loop decreases-loop
+returns-2 : tie.Need-returns invariant-loop decreases-loop
 returns-2 c = let l = c.before in
     let s = l.before.before in
     let ms = s.args.lengths.now in
-    let e : l.loop.j ≡ s.args.i = omega arith in
-    sym l.loop.invariant.1 ∙ ap (λ (j : ℕ). among (get_or ms s.args.i 0) (take j ms)) e
+    let e : l.loop-j.j ≡ s.args.i = omega arith in
+    sym l.loop-j.invariant.1 ∙ ap (λ (j : ℕ). among (get_or ms s.args.i 0) (take j ms)) e
 
-pub seen-spec : {M : Type 1} → statement M
-seen-spec =
+pub seen_spec : {M : Type 1} → statement M
+seen_spec =
     tie.close
     (tie.spec
     invariant-loop
