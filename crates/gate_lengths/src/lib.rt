@@ -1,4 +1,6 @@
 // The lengths that a gate is made with: whether making takes them, and how many floats the distinct ones ask.
+#![tactic(auto)]
+
 ghost use Rattle.std.specs.Prelude.{◌≡◌, true, [], ◌≤◌, ◌<◌, length, get_or, take};
 ghost use Rattle.laws.specs.Tests.{within};
 ghost use Rattle.model.specs.Gate.{among, distinct};

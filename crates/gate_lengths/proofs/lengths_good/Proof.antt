@@ -1,5 +1,5 @@
 use mathlib.Core.Path.{◌≡◌, refl, sym, ap, ◌∙◌}
-use mathlib.Core.Bool.{true}
+use mathlib.Core.Bool.{not, true}
 use Prim.Native.Nat.{◌≤◌, ◌-◌}
 use native.Mathlib.Omega.{arith}
 use lib.ListN.{length, take}
@@ -38,7 +38,7 @@ length-good-requires c κs = search rules
 returns-3 : tie.Need-returns-then-not-length_good invariant-loop decreases-loop
 returns-3 c = let g = c.before in
     let l = g.before.before.before in
-    one-wrong l.before.before.before.before.args.lengths.now l.loop-i.i (omega arith) (sym g.length_good.ensures ∙ not-true _ c.if-not-length_good.true)
+    one-wrong l.before.before.before.before.args.lengths.now l.loop-i.i (omega arith) (sym g.length_good.ensures ∙ not-true _ (ap not c.if-not-length_good.true))
 
 add-i : tie.Need-overflow_add-i invariant-loop decreases-loop
 add-i c = search rules
@@ -49,7 +49,7 @@ loop-less c = search rules
 loop-again : tie.Need-loop-i-preserved invariant-loop decreases-loop
 loop-again c = let g = c.before in
     let l = g.before.before.before in
-    (omega arith, within_more l.before.before.before.before.args.lengths.now l.loop-i.i (omega arith) l.loop-i.invariant.1 (sym g.length_good.ensures ∙ not-false _ c.if-not-length_good.false))
+    (omega arith, within_more l.before.before.before.before.args.lengths.now l.loop-i.i (omega arith) l.loop-i.invariant.1 (sym g.length_good.ensures ∙ not-false _ (ap not c.if-not-length_good.false)))
 
 returns-4 : tie.Need-returns invariant-loop decreases-loop
 returns-4 c = let l = c.before in
