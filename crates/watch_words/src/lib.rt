@@ -1,4 +1,6 @@
 // The words of the command line: options with their values, and the name of the recording or log.
+#![tactic(auto)]
+
 ghost use Rattle.std.specs.Prelude.{◌≡◌, ◌&&◌, eqb};
 ghost use Rattle.laws.specs.Texts.{ascii, same_bytes};
 ghost use Rattle.watch_words.specs.Words.{named, options, word_of, defaults, default_lengths, faulty as words_faulty};
@@ -7,7 +9,6 @@ ghost use Rattle.watch_words.specs.Words.{early_value, channel_taken, span_taken
 ghost use Rattle.watch_lengths.specs.Lengths.{lengths_of};
 ghost use Rattle.watch_numbers.specs.Numbers.{channel_of, span_of};
 
-use check::same;
 use watch_lengths::lengths_of;
 use watch_levels::{Level, LevelWord, above, absent, level_of};
 use watch_numbers::{channel_of, span_of};
@@ -33,7 +34,7 @@ pub enum Word {
 fn is(word: &[u8], name: &[u8]) -> bool
     ensures { result ≡ same_bytes word.now name.now }
 {
-    same(word, name)
+    word == name
 }
 
 fn option_of(word: &[u8]) -> Word
