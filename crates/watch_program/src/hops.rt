@@ -34,5 +34,7 @@ pub fn watch_hops(
         watch_runs::watch_runs(source, name, s, n, bank, bank_f, gate, gate_f);
         return;
     }
-    watch_singly::watch_each(source, name, s, n, bank, bank_f, worst, worst_f, gate, gate_f);
+    watch_singly::watch_each(
+        source, name, s, n, bank, bank_f, worst, worst_f, gate, gate_f,
+    );
 }

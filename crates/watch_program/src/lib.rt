@@ -43,15 +43,10 @@ fn watch_named(files: &impl Files<File = File>, name: &[u8], s: Settings, length
     }
 }
 
-fn watch_file(
-    rt: &(impl Env + Files<File = File>),
-    input: Stdin,
-    s: Settings,
-    lengths: &[u16; 8],
-) {
+fn watch_file(rt: &(impl Env + Files<File = File>), input: Stdin, s: Settings, lengths: &[u16; 8]) {
     let mut name = io::buffer();
     let len = rt.arg(s.file, &mut name).unwrap_or(0);
-    if &name[..len] == b"-" {
+    if &name[..len] == b"-".as_slice() {
         stores_of::watch_open(&Source::Input(input), b"standard input", s, lengths);
         return;
     }
@@ -74,12 +69,7 @@ pub fn run(rt: &(impl Env + Files<File = File>), input: Stdin) {
 }
 
 // As if these words were all of the command line. The kept runs stand one after another on one.
-pub fn run_words(
-    rt: &(impl Env + Files<File = File>),
-    input: Stdin,
-    first: usize,
-    end: usize,
-) {
+pub fn run_words(rt: &(impl Env + Files<File = File>), input: Stdin, first: usize, end: usize) {
     let mut lengths = watch_words::default_lengths();
     let s = read_words(rt, first, end, &mut lengths);
     if s.is_help {

@@ -54,7 +54,14 @@ fn watch_channels(source: &Source, name: &[u8], s: Settings, lengths: &[u16], n:
     watch_sized(source, name, s, &lengths[..count], n, gate_f_len);
 }
 
-fn watch_sized(source: &Source, name: &[u8], s: Settings, lengths: &[u16], n: u16, gate_f_len: usize) {
+fn watch_sized(
+    source: &Source,
+    name: &[u8],
+    s: Settings,
+    lengths: &[u16],
+    n: u16,
+    gate_f_len: usize,
+) {
     let mut bank = [0u16; MOST_BANK];
     let mut bank_f = [0.0f64; MOST_BANK_F];
     let mut worst = [0u16; WORST];
@@ -186,5 +193,7 @@ fn watch_with(
         return;
     }
     head::print_head(name, s, lengths, n);
-    watch_hops(source, name, s, n, bank, bank_f, worst, worst_f, gate, gate_f);
+    watch_hops(
+        source, name, s, n, bank, bank_f, worst, worst_f, gate, gate_f,
+    );
 }

@@ -273,7 +273,14 @@ fn why_none(took: Took, bytes: &[u8], size: usize) -> Heard {
 }
 
 // Where no hop was taken the watch ends, and says why.
-fn close_batch(source: &Source, name: &[u8], place: Place, bytes: &[u8], n: u16, took: Took) -> Place {
+fn close_batch(
+    source: &Source,
+    name: &[u8],
+    place: Place,
+    bytes: &[u8],
+    n: u16,
+    took: Took,
+) -> Place {
     if hops_of(took) > 0 {
         return place;
     }
