@@ -1,4 +1,6 @@
 // Document 02, R-1: the reader of a hop log, one hop on. Everything is checked before anything is written.
+#![tactic(auto)]
+
 ghost use Rattle.std.specs.Prelude.{◌≡◌, ◌&&◌, ◌+◌, ◌-◌, ◌*◌, ◌/◌, ◌<◌, ◌≤◌, eqb, length};
 ghost use Rattle.laws.specs.Lists.{tab};
 ghost use Rattle.laws.specs.Bits.{width};
