@@ -1,4 +1,6 @@
 // What the program says of itself, and of a word that it cannot take.
+#![tactic(auto)]
+
 use std::env::Env;
 use streams::{STDERR, STDOUT};
 use watch_words::Settings;
