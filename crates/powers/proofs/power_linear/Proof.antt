@@ -5,11 +5,11 @@ use Rattle.model.specs.Numbers.{epsilon}
 use Rattle.powers.proofs.power_linear.Statement.{statement}
 use Rattle.powers.proofs.power_linear.Tie as tie
 
-f32-to-f64-with-nan-requires : tie.Need-f32-to-f64-with-nan-requires
+f32-to-f64-with-nan-requires : tie.Need-f32_to_f64_with_nan-requires
 f32-to-f64-with-nan-requires c κs = search rules
 
 returns : tie.Need-returns
-returns c = ap (λ (x : Float). add binary64 x epsilon) c.f32-to-f64-with-nan.ensures
+returns c = ap (λ (x : Float). add binary64 x epsilon) c.f32_to_f64_with_nan.ensures
 
-pub power-linear-spec : {M : Type 1} → statement M
-power-linear-spec = tie.close (tie.spec f32-to-f64-with-nan-requires returns)
+pub power_linear_spec : {M : Type 1} → statement M
+power_linear_spec = tie.close (tie.spec f32-to-f64-with-nan-requires returns)
