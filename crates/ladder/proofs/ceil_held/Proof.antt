@@ -5,29 +5,29 @@ use Rattle.model.proofs.Ceilings.{at_top, steps_up, stays}
 use Rattle.ladder.proofs.ceil_held.Statement.{statement}
 use Rattle.ladder.proofs.ceil_held.Tie as tie
 
-floor-held-requires : tie.Need-floor-held-requires
+floor-held-requires : tie.Need-floor_held-t-requires
 floor-held-requires c κs = search rules
 
-returns : tie.Need-returns
-returns c = (at_top rungs_above (lit≤ tt) c.before.before.args.x (omega (arith, c.before.floor-held.ensures.0)), omega arith)
+returns : tie.Need-returns-then-t-ge-RUNGS_ABOVE_U16
+returns c = (at_top rungs_above (lit≤ tt) c.before.before.args.x (omega (arith, c.before.floor_held-t.ensures.0)), omega arith)
 
-int-to-float-if2 : tie.Need-int-to-float-if2
+int-to-float-if2 : tie.Need-int_to_float-t
 int-to-float-if2 c = search rules
 
-add-result : tie.Need-overflow-add-result
+add-result : tie.Need-overflow_add-result
 add-result c = search rules
 
-returns-2 : tie.Need-returns-2
+returns-2 : tie.Need-returns-then-t-x
 returns-2 c =
     let k = c.before.before.before in
-    (steps_up rungs_above (lit≤ tt) k.before.args.x k.floor-held.result k.floor-held.ensures.0 (omega arith) c.if2.true, omega arith)
+    (steps_up rungs_above (lit≤ tt) k.before.args.x k.floor_held-t.result k.floor_held-t.ensures.0 (omega arith) c.if-t-x.true, omega arith)
 
-returns-3 : tie.Need-returns-3
+returns-3 : tie.Need-returns
 returns-3 c =
     let k = c.before.before.before in
-    (stays rungs_above (lit≤ tt) k.before.args.x k.floor-held.result k.floor-held.ensures.0 (omega arith) c.if2.false, omega arith)
+    (stays rungs_above (lit≤ tt) k.before.args.x k.floor_held-t.result k.floor_held-t.ensures.0 (omega arith) c.if-t-x.false, omega arith)
 
-pub ceil-held-spec : {M : Type 1} → statement M
-ceil-held-spec =
+pub ceil_held_spec : {M : Type 1} → statement M
+ceil_held_spec =
     tie.close
     (tie.spec floor-held-requires returns int-to-float-if2 add-result returns-2 returns-3)

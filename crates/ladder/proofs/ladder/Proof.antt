@@ -7,11 +7,11 @@ use Rattle.model.specs.Ladder.{ladder}
 use Rattle.ladder.proofs.ladder.Statement.{statement}
 use Rattle.ladder.proofs.ladder.Tie as tie
 
-returns : tie.Need-returns
+returns : tie.Need-returns-then-s
 unfolding ladder
 returns c =
     let s = c.before.args.s in
-    rw (sym (ne-self s) ∙ c.if1.true) (differs_from_itself s (holds c.if1.true))
+    rw (sym (ne-self s) ∙ c.if-s.true) (differs_from_itself s (holds c.if-s.true))
 
 held-requires : tie.Need-held-requires
 held-requires c κs = search rules
@@ -19,15 +19,15 @@ held-requires c κs = search rules
 rung-requires : tie.Need-rung-requires
 rung-requires c κs = search rules
 
-rung-value-requires : tie.Need-rung-value-requires
+rung-value-requires : tie.Need-rung_value-requires
 rung-value-requires c κs = search rules
 
-returns-2 : tie.Need-returns-2
+returns-2 : tie.Need-returns
 unfolding ladder
 returns-2 c =
     let s = c.before.before.before.before.args.s in
-    rw (sym (ne-self s) ∙ c.before.before.before.if1.false) (c.rung-value.ensures ∙ rw (c.before.rung.ensures.0, c.before.before.held.ensures))
+    rw (sym (ne-self s) ∙ c.before.before.before.if-s.false) (c.rung_value.ensures ∙ rw (c.before.rung.ensures.0, c.before.before.held.ensures))
 
-pub ladder-spec : {M : Type 1} → statement M
-ladder-spec =
+pub ladder_spec : {M : Type 1} → statement M
+ladder_spec =
     tie.close (tie.spec returns held-requires rung-requires rung-value-requires returns-2)

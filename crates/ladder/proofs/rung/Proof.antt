@@ -8,47 +8,47 @@ use Rattle.ladder.proofs.Rungs.{held-less}
 use Rattle.ladder.proofs.rung.Statement.{statement}
 use Rattle.ladder.proofs.rung.Tie as tie
 
-ceil-held-requires : tie.Need-ceil-held-requires
+ceil-held-requires : tie.Need-ceil_held-requires
 ceil-held-requires c κs = search rules
 
 wide-requires : tie.Need-wide-requires
 wide-requires c κs = search rules
 
-add-result : tie.Need-overflow-add-result
+add-result : tie.Need-overflow_add-result
 add-result c = search rules
 
-returns : tie.Need-returns
+returns : tie.Need-returns-then-z
 unfolding rung
 returns c =
-    let h = c.before.ceil-held.ensures in
-    let n = floor-none rungs_below c.before.before.before.args.z c.before.before.if1.true in
+    let h = c.before.ceil_held.ensures in
+    let n = floor-none rungs_below c.before.before.before.args.z c.before.before.if-z.true in
     (omega (arith, h, n), omega (arith, h))
 
-floor-held-requires : tie.Need-floor-held-requires
+floor-held-requires : tie.Need-floor_held-t-requires
 floor-held-requires c κs = search rules
 
-returns-2 : tie.Need-returns-2
+returns-2 : tie.Need-returns-then-t-ge-RUNGS_BELOW_U16
 unfolding rung
 returns-2 c =
     let b = c.before in
     let z = b.before.before.args.z in
-    (omega (arith, b.floor-held.ensures.0, held-less (neg z), ceil-none rungs_above z b.before.if1.false), omega arith)
+    (omega (arith, b.floor_held-t.ensures.0, held-less (neg z), ceil-none rungs_above z b.before.if-z.false), omega arith)
 
 wide-requires-2 : tie.Need-wide-requires-2
 wide-requires-2 c κs = search rules
 
-sub-result : tie.Need-overflow-sub-result
+sub-result : tie.Need-overflow_sub-result
 sub-result c = search rules
 
-returns-3 : tie.Need-returns-3
+returns-3 : tie.Need-returns
 unfolding rung
 returns-3 c =
     let b = c.before.before in
     let z = b.before.before.args.z in
-    (omega (arith, b.floor-held.ensures.0, held-less (neg z), ceil-none rungs_above z b.before.if1.false), omega arith)
+    (omega (arith, b.floor_held-t.ensures.0, held-less (neg z), ceil-none rungs_above z b.before.if-z.false), omega arith)
 
-pub rung-spec : {M : Type 1} → statement M
-rung-spec =
+pub rung_spec : {M : Type 1} → statement M
+rung_spec =
     tie.close
     (tie.spec
     ceil-held-requires

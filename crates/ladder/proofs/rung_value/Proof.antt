@@ -9,7 +9,7 @@ use Rattle.ladder.proofs.rung_value.Tie as tie
 root-requires : tie.Need-root-requires
 root-requires c κs = search rules
 
-int-to-float-result : tie.Need-int-to-float-result
+int-to-float-result : tie.Need-int_to_float-result
 unfolding in_float
 int-to-float-result c =
     let j = c.before.before.args.r % 80 in
@@ -22,5 +22,5 @@ returns : tie.Need-returns
 unfolding rung_value
 returns c = rw (c.before.before.root.ensures, c.ten.ensures)
 
-pub rung-value-spec : {M : Type 1} → statement M
-rung-value-spec = tie.close (tie.spec root-requires int-to-float-result ten-requires returns)
+pub rung_value_spec : {M : Type 1} → statement M
+rung_value_spec = tie.close (tie.spec root-requires int-to-float-result ten-requires returns)

@@ -7,15 +7,15 @@ use Rattle.model.specs.Ladder.{ten_to}
 use Rattle.ladder.proofs.tables.ten.Statement.{statement}
 use Rattle.ladder.proofs.tables.ten.Tie as tie
 
-mul-result : tie.Need-overflow-mul-result
+mul-result : tie.Need-offset_bounds-q
 mul-result c = search rules
 
-array-read-result : tie.Need-array-read-result
+array-read-result : tie.Need-bounds-q
 array-read-result c = search rules
 
 returns : tie.Need-returns
 unfolding of_bits round ten_to
 returns c = get_d-tab tens_len ten_to c.args.q nan c.requires
 
-pub ten-spec : {M : Type 1} → statement M
-ten-spec = tie.close (tie.spec mul-result array-read-result returns)
+pub ten_spec : {M : Type 1} → statement M
+ten_spec = tie.close (tie.spec mul-result array-read-result returns)
