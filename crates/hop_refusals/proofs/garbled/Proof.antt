@@ -11,56 +11,56 @@ use Rattle.hop_refusals.proofs.Hops.{nan_at, nan-read, garbled-is}
 use Rattle.hop_refusals.proofs.garbled.Statement.{statement}
 use Rattle.hop_refusals.proofs.garbled.Tie as tie
 
-abbrev invariant-loop : tie.invariant-loop
+abbrev invariant-loop : tie.invariant-loop-k
 invariant-loop power-db end k₀ k = (k ≤ end) × (any_below k (nan_at power-db) ≡ false)
 
-abbrev decreases-loop : tie.decreases-loop
+abbrev decreases-loop : tie.decreases-loop-k
 decreases-loop power-db end k₀ k = end - k
 
-sharing-requires : tie.Need-sharing-requires invariant-loop decreases-loop
+sharing-requires : tie.Need-sharing-end-requires invariant-loop decreases-loop
 sharing-requires c κs = search rules
 
-loop-holds : tie.Need-loop-init invariant-loop decreases-loop
+loop-holds : tie.Need-loop-k-init invariant-loop decreases-loop
 unfolding any_below
 loop-holds c = (search rules, refl)
 
-mul-if1 : tie.Need-overflow-mul-if1 invariant-loop decreases-loop
+mul-if1 : tie.Need-offset_bounds-power_db-k invariant-loop decreases-loop
 mul-if1 c = search rules
 
-shared-slice-read-if1 : tie.Need-shared-slice-read-if1 invariant-loop decreases-loop
+shared-slice-read-if1 : tie.Need-bounds-power_db-k invariant-loop decreases-loop
 shared-slice-read-if1 c = search rules
 
-mul-if1-2 : tie.Need-overflow-mul-if1-2 invariant-loop decreases-loop
+mul-if1-2 : tie.Need-offset_bounds-power_db-k-in-loop-k invariant-loop decreases-loop
 mul-if1-2 c = search rules
 
-shared-slice-read-if1-2 : tie.Need-shared-slice-read-if1-2 invariant-loop decreases-loop
+shared-slice-read-if1-2 : tie.Need-bounds-power_db-k-in-loop-k invariant-loop decreases-loop
 shared-slice-read-if1-2 c = search rules
 
-returns : tie.Need-returns invariant-loop decreases-loop
+returns : tie.Need-returns-then-power_db-k invariant-loop decreases-loop
 returns c = let l = c.before.before.before.before in
-    let db = l.before.before.before.args.power-db.now in
-    sym (any_at (nan_at db) l.before.sharing.result l.loop.k (omega arith) (sym (nan-read db l.loop.k (omega arith)) ∙ c.if1.true))
-    ∙ ap (λ (n : ℕ). any_below n (nan_at db)) l.before.sharing.ensures.0
+    let db = l.before.before.before.args.power_db.now in
+    sym (any_at (nan_at db) l.before.sharing-end.result l.loop-k.k (omega arith) (sym (nan-read db l.loop-k.k (omega arith)) ∙ c.if-power_db-k.true))
+    ∙ ap (λ (n : ℕ). any_below n (nan_at db)) l.before.sharing-end.ensures.0
     ∙ garbled-is db (length db)
 
-add-k : tie.Need-overflow-add-k invariant-loop decreases-loop
+add-k : tie.Need-overflow_add-k invariant-loop decreases-loop
 add-k c = search rules
 
-loop-less : tie.Need-loop-smaller invariant-loop decreases-loop
+loop-less : tie.Need-loop-k-smaller invariant-loop decreases-loop
 loop-less c = search rules
 
-loop-again : tie.Need-loop-preserved invariant-loop decreases-loop
+loop-again : tie.Need-loop-k-preserved invariant-loop decreases-loop
 loop-again c = let l = c.before.before.before.before in
-    let db = l.before.before.before.args.power-db.now in
-    (omega arith, any-more (nan_at db) l.loop.k l.loop.invariant.1 (sym (nan-read db l.loop.k (omega arith)) ∙ c.if1.false))
+    let db = l.before.before.before.args.power_db.now in
+    (omega arith, any-more (nan_at db) l.loop-k.k l.loop-k.invariant.1 (sym (nan-read db l.loop-k.k (omega arith)) ∙ c.if-power_db-k.false))
 
-returns-2 : tie.Need-returns-2 invariant-loop decreases-loop
+returns-2 : tie.Need-returns invariant-loop decreases-loop
 returns-2 c = let l = c.before in
-    let db = l.before.before.before.args.power-db.now in
-    any-done (nan_at db) l.loop.k (sharing_of (length db)) (omega arith) l.loop.invariant.1 ∙ garbled-is db (length db)
+    let db = l.before.before.before.args.power_db.now in
+    any-done (nan_at db) l.loop-k.k (sharing_of (length db)) (omega arith) l.loop-k.invariant.1 ∙ garbled-is db (length db)
 
-pub garbled-spec : {M : Type 1} → statement M
-garbled-spec =
+pub garbled_spec : {M : Type 1} → statement M
+garbled_spec =
     tie.close
     (tie.spec
     invariant-loop

@@ -9,38 +9,38 @@ use Rattle.hop_refusals.proofs.Hops.{db_long, power_long, fast, slow}
 use Rattle.hop_refusals.proofs.hop_refusal.Statement.{statement}
 use Rattle.hop_refusals.proofs.hop_refusal.Tie as tie
 
-abbrev start : tie.Else3 → tie.Start
+abbrev start : tie.Else-phase-ne0 → tie.Start
 start e = e.before.before.before.before.before
 
-quiet : (e : tie.Else3)
-    → first (garbled (length (start e).args.power-db.now) (start e).args.power-db.now) 6 0
-    ≡ hop_refusal (start e).args.n (start e).args.phase (start e).args.power-db.now (length (start e).args.power.now)
+quiet : (e : tie.Else-phase-ne0)
+    → first (garbled (length (start e).args.power_db.now) (start e).args.power_db.now) 6 0
+    ≡ hop_refusal (start e).args.n (start e).args.phase (start e).args.power_db.now (length (start e).args.power.now)
 quiet e = let s = start e in
-    slow s.args.n s.args.phase s.args.power-db.now (length s.args.power.now) e.before.before.if1.false e.before.if2.false e.if3.false
+    slow s.args.n s.args.phase s.args.power_db.now (length s.args.power.now) e.before.before.if-power_db-n.false e.before.if-power-n.false e.if-phase-ne0.false
 
-returns : tie.Need-returns
+returns : tie.Need-returns-then-power_db-n
 returns c = let s = c.before.before.before in
-    db_long s.args.n s.args.phase s.args.power-db.now (length s.args.power.now) c.if1.true
+    db_long s.args.n s.args.phase s.args.power_db.now (length s.args.power.now) c.if-power_db-n.true
 
-returns-2 : tie.Need-returns-2
+returns-2 : tie.Need-returns-then-power-n
 returns-2 c = let s = c.before.before.before.before in
-    power_long s.args.n s.args.phase s.args.power-db.now (length s.args.power.now) c.before.if1.false c.if2.true
+    power_long s.args.n s.args.phase s.args.power_db.now (length s.args.power.now) c.before.if-power_db-n.false c.if-power-n.true
 
-returns-3 : tie.Need-returns-3
+returns-3 : tie.Need-returns-then-phase-ne0
 returns-3 c = let s = c.before.before.before.before.before in
-    fast s.args.n s.args.phase s.args.power-db.now (length s.args.power.now) c.before.before.if1.false c.before.if2.false c.if3.true
+    fast s.args.n s.args.phase s.args.power_db.now (length s.args.power.now) c.before.before.if-power_db-n.false c.before.if-power-n.false c.if-phase-ne0.true
 
 garbled-requires : tie.Need-garbled-requires
 garbled-requires c κs = search rules
 
-returns-4 : tie.Need-returns-4
+returns-4 : tie.Need-returns-then-garbled
 returns-4 c = let g = c.before in
-    ap (λ (b : Bool). first b 6 0) (sym c.if4.true ∙ g.garbled.ensures) ∙ quiet g.before
+    ap (λ (b : Bool). first b 6 0) (sym c.if-garbled.true ∙ g.garbled.ensures) ∙ quiet g.before
 
-returns-5 : tie.Need-returns-5
+returns-5 : tie.Need-returns
 returns-5 c = let g = c.before in
-    ap (λ (b : Bool). first b 6 0) (sym c.if4.false ∙ g.garbled.ensures) ∙ quiet g.before
+    ap (λ (b : Bool). first b 6 0) (sym c.if-garbled.false ∙ g.garbled.ensures) ∙ quiet g.before
 
-pub hop-refusal-spec : {M : Type 1} → statement M
-hop-refusal-spec =
+pub hop_refusal_spec : {M : Type 1} → statement M
+hop_refusal_spec =
     tie.close (tie.spec returns returns-2 returns-3 garbled-requires returns-4 returns-5)
