@@ -10,47 +10,47 @@ use borrow.Author.Rules.{rules}
 use Rattle.median.proofs.count_not_above.Statement.{statement}
 use Rattle.median.proofs.count_not_above.Tie as tie
 
-abbrev invariant-loop : tie.invariant-loop
+abbrev invariant-loop : tie.invariant-loop-i
 invariant-loop l x n₀ i₀ n i = (i ≤ length l) × (n ≡ count (λ y. le y x) (take i l))
 
-abbrev decreases-loop : tie.decreases-loop
+abbrev decreases-loop : tie.decreases-loop-i
 decreases-loop l x n₀ i₀ n i = length l - i
 
-loop-holds : tie.Need-loop-init invariant-loop decreases-loop
+loop-holds : tie.Need-loop-i-init invariant-loop decreases-loop
 loop-holds c = search rules
 
-mul-n : tie.Need-overflow-mul-n invariant-loop decreases-loop
+mul-n : tie.Need-offset_bounds-l-i invariant-loop decreases-loop
 mul-n c = search rules
 
-shared-slice-read-n : tie.Need-shared-slice-read-n invariant-loop decreases-loop
+shared-slice-read-n : tie.Need-bounds-l-i invariant-loop decreases-loop
 shared-slice-read-n c = search rules
 
-cast-n : tie.Need-overflow-cast-n invariant-loop decreases-loop
+cast-n : tie.Need-overflow_cast-n invariant-loop decreases-loop
 cast-n c = search rules
 
-add-n : tie.Need-overflow-add-n invariant-loop decreases-loop
+add-n : tie.Need-overflow_add-n invariant-loop decreases-loop
 add-n c = let i = c.before.before in
     let s = i.before in
-    omega (arith, count-within (λ (y : Float). le y s.args.x) s.args.l.now i.loop.i i.loop.n nan (omega arith) i.loop.invariant.1)
+    omega (arith, count-within (λ (y : Float). le y s.args.x) s.args.l.now i.loop-i.i i.loop-i.n nan (omega arith) i.loop-i.invariant.1)
 
-add-i : tie.Need-overflow-add-i invariant-loop decreases-loop
+add-i : tie.Need-overflow_add-i invariant-loop decreases-loop
 add-i c = search rules
 
-loop-less : tie.Need-loop-smaller invariant-loop decreases-loop
+loop-less : tie.Need-loop-i-smaller invariant-loop decreases-loop
 loop-less c = search rules
 
-loop-again : tie.Need-loop-preserved invariant-loop decreases-loop
+loop-again : tie.Need-loop-i-preserved invariant-loop decreases-loop
 loop-again c = let i = c.before.before in
     let s = i.before in
-    (search rules, count_turn (λ (y : Float). le y s.args.x) s.args.l.now i.loop.i i.loop.n nan (omega arith) i.loop.invariant.1)
+    (search rules, count_turn (λ (y : Float). le y s.args.x) s.args.l.now i.loop-i.i i.loop-i.n nan (omega arith) i.loop-i.invariant.1)
 
 returns : tie.Need-returns invariant-loop decreases-loop
 returns c = let i = c.before in
     let s = i.before in
-    count-done (λ (y : Float). le y s.args.x) s.args.l.now i.loop.i i.loop.n i.loop.invariant.1 (omega arith)
+    count-done (λ (y : Float). le y s.args.x) s.args.l.now i.loop-i.i i.loop-i.n i.loop-i.invariant.1 (omega arith)
 
-pub count-not-above-spec : {M : Type 1} → statement M
-count-not-above-spec =
+pub count_not_above_spec : {M : Type 1} → statement M
+count_not_above_spec =
     tie.close
     (tie.spec
     invariant-loop

@@ -10,30 +10,30 @@ use borrow.Author.Rules.{rules}
 use Rattle.median.proofs.median.Statement.{statement}
 use Rattle.median.proofs.median.Tie as tie
 
-ranked-value-requires : tie.Need-ranked-value-requires
+ranked-value-requires : tie.Need-ranked_value-requires
 ranked-value-requires c κs = search rules
 
-returns : tie.Need-returns
+returns : tie.Need-returns-then-l-eq1
 unfolding median
 returns c = let s = c.before.before.before in
-    rw (eq-eqb (length s.args.l.now % 2) 1 c.before.if1.true) c.ranked-value.ensures
+    rw (eq-eqb (length s.args.l.now % 2) 1 c.before.if-l-eq1.true) c.ranked_value.ensures
 
-sub-ranked-value : tie.Need-overflow-sub-ranked-value
+sub-ranked-value : tie.Need-overflow_sub-middle
 sub-ranked-value c = search rules
 
-ranked-value-requires-2 : tie.Need-ranked-value-requires-2
+ranked-value-requires-2 : tie.Need-ranked_value-lower-requires
 ranked-value-requires-2 c κs = search rules
 
-ranked-value-requires-3 : tie.Need-ranked-value-requires-3
+ranked-value-requires-3 : tie.Need-ranked_value-upper-requires
 ranked-value-requires-3 c κs = search rules
 
-returns-2 : tie.Need-returns-2
+returns-2 : tie.Need-returns
 unfolding median
 returns-2 c = let s = c.before.before.before.before in
-    rw (ne_eqb (length s.args.l.now % 2) 1 c.before.before.if1.false) (ap₂ (λ (x y : Float). mul binary64 half (add binary64 x y)) c.before.ranked-value2.ensures c.ranked-value3.ensures)
+    rw (ne_eqb (length s.args.l.now % 2) 1 c.before.before.if-l-eq1.false) (ap₂ (λ (x y : Float). mul binary64 half (add binary64 x y)) c.before.ranked_value-lower.ensures c.ranked_value-upper.ensures)
 
-pub median-spec : {M : Type 1} → statement M
-median-spec =
+pub median_spec : {M : Type 1} → statement M
+median_spec =
     tie.close
     (tie.spec
     ranked-value-requires

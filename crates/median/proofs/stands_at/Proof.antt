@@ -9,20 +9,20 @@ use borrow.Author.Rules.{rules}
 use Rattle.median.proofs.stands_at.Statement.{statement}
 use Rattle.median.proofs.stands_at.Tie as tie
 
-count-below-requires : tie.Need-count-below-requires
+count-below-requires : tie.Need-count_below-requires
 count-below-requires c κs = search rules
 
-returns : tie.Need-returns
+returns : tie.Need-returns-then-count_below-rank
 returns c = let s = c.before.before.before in
-    sym (and-false-l _ _ (lt-leb (count (λ (y : Float). lt y s.args.x) s.args.l.now) s.args.rank (omega (arith, c.before.count-below.ensures))))
+    sym (and-false-l _ _ (lt-leb (count (λ (y : Float). lt y s.args.x) s.args.l.now) s.args.rank (omega (arith, c.before.count_below.ensures))))
 
-count-not-above-requires : tie.Need-count-not-above-requires
+count-not-above-requires : tie.Need-count_not_above-requires
 count-not-above-requires c κs = search rules
 
-returns-2 : tie.Need-returns-2
+returns-2 : tie.Need-returns
 returns-2 c = let s = c.before.before.before.before in
-    simp (le-leb (count (λ (y : Float). lt y s.args.x) s.args.l.now) s.args.rank (omega (arith, c.before.before.count-below.ensures)), c.count-not-above.ensures)
+    simp (le-leb (count (λ (y : Float). lt y s.args.x) s.args.l.now) s.args.rank (omega (arith, c.before.before.count_below.ensures)), c.count_not_above.ensures)
 
-pub stands-at-spec : {M : Type 1} → statement M
-stands-at-spec =
+pub stands_at_spec : {M : Type 1} → statement M
+stands_at_spec =
     tie.close (tie.spec count-below-requires returns count-not-above-requires returns-2)
