@@ -4,16 +4,16 @@ use borrow.Author.Tests.{not-true, not-false}
 use Rattle.ring.proofs.lead_rise.Statement.{statement}
 use Rattle.ring.proofs.lead_rise.Tie as tie
 
-returns : tie.Need-returns
-returns c = (rw (not-true c.before.args.quiet c.if1.true), omega arith)
+returns : tie.Need-returns-then-not-quiet
+returns c = (rw (not-true c.before.args.quiet c.if-not-quiet.true), omega arith)
 
-returns-2 : tie.Need-returns-2
+returns-2 : tie.Need-returns-then-bin-eq0
 returns-2 c =
-    (rw (not-false c.before.before.args.quiet c.before.if1.false, eq-eqb 0 c.before.before.args.bin (omega arith)), omega arith)
+    (rw (not-false c.before.before.args.quiet c.before.if-not-quiet.false, eq-eqb 0 c.before.before.args.bin (omega arith)), omega arith)
 
-returns-3 : tie.Need-returns-3
+returns-3 : tie.Need-returns-else-bin-eq0
 returns-3 c =
-    (rw (not-false c.before.before.args.quiet c.before.if1.false, ne_eqb 0 c.before.before.args.bin (λ e. omega arith)), omega arith)
+    (rw (not-false c.before.before.args.quiet c.before.if-not-quiet.false, ne_eqb 0 c.before.before.args.bin (λ e. omega arith)), omega arith)
 
-pub lead-rise-spec : {M : Type 1} → statement M
-lead-rise-spec = tie.close (tie.spec returns returns-2 returns-3)
+pub lead_rise_spec : {M : Type 1} → statement M
+lead_rise_spec = tie.close (tie.spec returns returns-2 returns-3)

@@ -5,36 +5,36 @@ use Rattle.model.specs.Layout.{ring_len, at_filled}
 use Rattle.ring.proofs.make_room.Statement.{statement}
 use Rattle.ring.proofs.make_room.Tie as tie
 
-slice-read-filled : tie.Need-slice-read-filled
+slice-read-filled : tie.Need-bounds-chan-571
 slice-read-filled c = search rules
 
 evict-requires : tie.Need-evict-requires
 evict-requires c κs = search rules
 
-add-chan : tie.Need-overflow-add-chan
+add-chan : tie.Need-overflow_add-chan
 add-chan c = search rules
 
-slice-write-chan : tie.Need-slice-write-chan
+slice-write-chan : tie.Need-bounds-chan-571-else-filled-eq-RING_LEN_U16
 slice-write-chan c = search rules
 
-same_length : tie.Need-same-length
+same_length : tie.Need-shape_of-chan-then-filled-eq-RING_LEN_U16
 same_length c = search rules
 
-returns : tie.Need-returns
+returns : tie.Need-returns-then-filled-eq-RING_LEN_U16
 returns c =
     let s = c.before.before.before.before.before.before.before in
-    rw (eq-eqb (get_or s.args.chan.now at_filled 0) ring_len (omega arith)) c.before.before.evict.ensures
+    rw (eq-eqb (get_or s.args.chan_1.now at_filled 0) ring_len (omega arith)) c.before.before.evict.ensures
 
-same-length-2 : tie.Need-same-length-2
+same-length-2 : tie.Need-shape_of-chan-else-filled-eq-RING_LEN_U16
 same-length-2 c = search rules
 
-returns-2 : tie.Need-returns-2
+returns-2 : tie.Need-returns-else-filled-eq-RING_LEN_U16
 returns-2 c =
     let s = c.before.before.before in
-    rw (ne_eqb (get_or s.args.chan.now at_filled 0) ring_len (λ e. omega arith)) (grown s.args.chan.now s.requires.0)
+    rw (ne_eqb (get_or s.args.chan_1.now at_filled 0) ring_len (λ e. omega arith)) (grown s.args.chan_1.now s.requires.0)
 
-pub make-room-spec : {M : Type 1} → statement M
-make-room-spec =
+pub make_room_spec : {M : Type 1} → statement M
+make_room_spec =
     tie.close
     (tie.spec
     slice-read-filled

@@ -6,13 +6,13 @@ use Rattle.laws.proofs.Counting.{occ-le}
 use Rattle.ring.proofs.since.Statement.{statement}
 use Rattle.ring.proofs.since.Tie as tie
 
-shared-slice-read-result : tie.Need-shared-slice-read-result
+shared-slice-read-result : tie.Need-bounds-chan-571
 shared-slice-read-result c = search rules
 
-shared-slice-read-result-2 : tie.Need-shared-slice-read-result-2
+shared-slice-read-result-2 : tie.Need-bounds-chan-572
 shared-slice-read-result-2 c = search rules
 
-sub-result : tie.Need-overflow-sub-result
+sub-result : tie.Need-overflow_sub-result
 sub-result c =
     let s = c.before.before in
     let ch = chan_of s.args.chan.now in
@@ -27,6 +27,6 @@ sub-result c =
 returns : tie.Need-returns
 returns c = search rules
 
-pub since-spec : {M : Type 1} → statement M
-since-spec =
+pub since_spec : {M : Type 1} → statement M
+since_spec =
     tie.close (tie.spec shared-slice-read-result shared-slice-read-result-2 sub-result returns)
