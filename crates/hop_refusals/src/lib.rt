@@ -1,4 +1,5 @@
 // Document 01, "Refusals and their order": the refusals of a hop, by its slices alone.
+#![tactic(auto)]
 
 ghost use Rattle.std.specs.Prelude.{◌≡◌, ◌≤◌, length};
 ghost use Rattle.model.specs.Refusals.{garbled as garbledBy};

@@ -1,4 +1,6 @@
 // Document 01, "Windows, ladder, gate": the ladder, which stands in for powf; document 02, R-5: rounded upward.
+#![tactic(auto)]
+
 ghost use Rattle.std.specs.Prelude.{◌≡◌, ◌+◌, ◌≤◌};
 ghost use Rattle.model.specs.Layout.{rungs_below, rungs_above};
 ghost use Rattle.model.specs.Ring.{floor_held};

@@ -9,7 +9,7 @@ use lib.ListN.{length, get_or}
 use lib.Dec.{ltb}
 use lib.Ieee.{Float, lt, le, is_nan}
 use borrow.Author.Tests.{ltb-true, ltb-false, lt-ltb, le-leb, not-true, not-false}
-use Rattle.laws.specs.Lists.{one, count}
+use Rattle.laws.specs.Lists.{count}
 use Rattle.laws.proofs.Tests.{by-test, clash, and-true}
 use Rattle.model.specs.Numbers.{f0}
 use Rattle.model.specs.Bank.{stands_at, first_at, ranked}

@@ -1,4 +1,6 @@
 // The median by rank: no sorting, no copy. Counting loops without a way out, so that they can run several lanes wide.
+#![tactic(auto)]
+
 ghost use Rattle.std.specs.Prelude.{◌≡◌, ◌*◌, ◌<◌, length};
 ghost use Rattle.std.specs.Float.Ieee.{lt, le};
 ghost use Rattle.laws.specs.Lists.{count};

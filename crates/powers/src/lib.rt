@@ -1,4 +1,6 @@
 // The smoothed linear powers, one for each channel.
+#![tactic(auto)]
+
 ghost use Rattle.std.specs.Prelude.{◌≡◌, length, slice_index_or};
 ghost use Rattle.laws.specs.Lists.{tab};
 ghost use Rattle.model.specs.Numbers.{f0, power_linear, smoothed};

@@ -1,4 +1,5 @@
 // Document 01, "Stores": how long the stores of a bank are, and the refusals over sizes.
+#![tactic(auto)]
 
 ghost use Rattle.std.specs.Prelude.{◌≡◌, ◌≤◌};
 ghost use Rattle.laws.specs.Tests.{within};

@@ -1,5 +1,5 @@
 use mathlib.Core.Path.{◌≡◌, sym, ap, ◌∙◌}
-use mathlib.Core.Bool.{true}
+use mathlib.Core.Bool.{not, true}
 use Prim.Native.Nat.{ℕ, ◌+◌, ◌*◌}
 use borrow.Author.Tests.{not-true, not-false}
 use borrow.Author.Rules.{rules}
@@ -10,13 +10,13 @@ use Rattle.store_sizes.proofs.bank_len.Statement.{statement}
 use Rattle.store_sizes.proofs.bank_len.Tie as tie
 
 band : (c : tie.Else-not-in_band) → within 1 512 c.before.before.args.n ≡ true
-band c = sym c.before.in_band.ensures ∙ not-false _ c.if-not-in_band.false
+band c = sym c.before.in_band.ensures ∙ not-false _ (ap not c.if-not-in_band.false)
 
 in-band-requires : tie.Need-in_band-requires
 in-band-requires c κs = search rules
 
 returns : tie.Need-returns-then-not-in_band
-returns c = len-none c.before.before.args.n (sym c.before.in_band.ensures ∙ not-true _ c.if-not-in_band.true)
+returns c = len-none c.before.before.args.n (sym c.before.in_band.ensures ∙ not-true _ (ap not c.if-not-in_band.true))
 
 base-requires : tie.Need-base-requires
 base-requires c κs = high _ (band c)

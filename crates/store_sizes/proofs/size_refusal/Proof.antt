@@ -1,5 +1,5 @@
-use mathlib.Core.Path.{◌≡◌, sym, ◌∙◌}
-use mathlib.Core.Bool.{true}
+use mathlib.Core.Path.{ap, ◌≡◌, sym, ◌∙◌}
+use mathlib.Core.Bool.{not, true}
 use borrow.Author.Tests.{not-true, not-false}
 use borrow.Author.Rules.{rules}
 use Rattle.laws.specs.Tests.{within}
@@ -11,14 +11,14 @@ abbrev start : tie.Else-not-in_band → tie.Start
 start c = c.before.before
 
 band : (c : tie.Else-not-in_band) → within 1 512 (start c).args.n ≡ true
-band c = sym c.before.in_band.ensures ∙ not-false _ c.if-not-in_band.false
+band c = sym c.before.in_band.ensures ∙ not-false _ (ap not c.if-not-in_band.false)
 
 in-band-requires : tie.Need-in_band-requires
 in-band-requires c κs = search rules
 
 returns : tie.Need-returns-then-not-in_band
 returns c = let s = c.before.before in
-    off-band s.args.band s.args.u_len s.args.f_len s.args.n (sym c.before.in_band.ensures ∙ not-true _ c.if-not-in_band.true)
+    off-band s.args.band s.args.u_len s.args.f_len s.args.n (sym c.before.in_band.ensures ∙ not-true _ (ap not c.if-not-in_band.true))
 
 bank-len-requires : tie.Need-bank_len-requires
 bank-len-requires c κs = search rules
