@@ -1,4 +1,6 @@
 // The next hop of a recording.
+#![tactic(auto)]
+
 ghost use Rattle.std.specs.Prelude.{◌≡◌, ◌≤◌, length};
 ghost use Rattle.watch_read.specs.Read.{read_of};
 

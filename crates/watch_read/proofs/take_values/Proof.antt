@@ -12,7 +12,7 @@ fill-power-requires : tie.Need-fill_power-requires
 fill-power-requires c κs = search rules
 
 slice-aggregate-step-of : tie.Need-slice_bounds-step_of-end
-slice-aggregate-step-of c = sym (length-take-le _ _ c.before.before.before.before.before.before.before.before.before.before.before.before.requires)
+slice-aggregate-step-of c = sym (length-take-le _ _ c.before.before.before.before.before.before.before.before.before.before.before.requires)
 
 step-of-requires : tie.Need-step_of-requires
 step-of-requires c κs = search rules
@@ -24,7 +24,7 @@ same-length-2 : tie.Need-shape_of-power
 same-length-2 c = search rules
 
 returns : tie.Need-returns
-returns c = λ i. (c.step_of_lem.ensures i, c.before.before.before.before.before.before.before.before.fill_db.ensures i, c.before.before.before.before.fill_power.ensures i)
+returns c = λ i. (c.step_of.ensures i, c.before.before.before.before.before.before.before.fill_db.ensures i, c.before.before.before.fill_power.ensures i)
 
 pub take_values_spec : {M : Type 1} → statement M
 take_values_spec =
