@@ -9,42 +9,42 @@ use borrow.Author.Rules.{rules}
 use Rattle.log_hops.proofs.is_changed.Statement.{statement}
 use Rattle.log_hops.proofs.is_changed.Tie as tie
 
-mul-if1 : tie.Need-overflow-mul-if1
+mul-if1 : tie.Need-offset_bounds-db-i
 mul-if1 c = search rules
 
-shared-slice-read-if1 : tie.Need-shared-slice-read-if1
+shared-slice-read-if1 : tie.Need-bounds-db-i
 shared-slice-read-if1 c = search rules
 
-db-before-requires : tie.Need-db-before-requires
+db-before-requires : tie.Need-db_before-requires
 db-before-requires c κs = search rules
 
-returns : tie.Need-returns
+returns : tie.Need-returns-then-db-i
 returns c =
     let a = c.before.before.before.before.before.args in
     let x : ℕ = get_or a.db.now a.i 0 in
     let y : ℕ = get_or a.power.now a.i 0 in
-    let h : differ x (before a.n a.db.now a.i) ≡ true = ap (differ x) (sym c.before.db-before.ensures) ∙ differs _ _ c.if1.true in
+    let h : differ x (before a.n a.db.now a.i) ≡ true = ap (differ x) (sym c.before.db_before.ensures) ∙ differs _ _ c.if-db-i.true in
     sym (ap (λ (b : Bool). b || differ y (before a.n a.power.now a.i)) h)
 
-mul-result : tie.Need-overflow-mul-result
+mul-result : tie.Need-offset_bounds-power-i
 mul-result c = search rules
 
-shared-slice-read-result : tie.Need-shared-slice-read-result
+shared-slice-read-result : tie.Need-bounds-power-i
 shared-slice-read-result c = search rules
 
-power-before-requires : tie.Need-power-before-requires
+power-before-requires : tie.Need-power_before-requires
 power-before-requires c κs = search rules
 
-returns-2 : tie.Need-returns-2
+returns-2 : tie.Need-returns
 returns-2 c =
     let a = c.before.before.before.before.before.before.before.args in
     let x : ℕ = get_or a.db.now a.i 0 in
     let y : ℕ = get_or a.power.now a.i 0 in
-    let h : differ x (before a.n a.db.now a.i) ≡ false = ap (differ x) (sym c.before.before.before.db-before.ensures) ∙ agrees _ _ c.before.before.if1.false in
-    ap (differ y) c.power-before.ensures ∙ sym (ap (λ (b : Bool). b || differ y (before a.n a.power.now a.i)) h)
+    let h : differ x (before a.n a.db.now a.i) ≡ false = ap (differ x) (sym c.before.before.before.db_before.ensures) ∙ agrees _ _ c.before.before.if-db-i.false in
+    ap (differ y) c.power_before.ensures ∙ sym (ap (λ (b : Bool). b || differ y (before a.n a.power.now a.i)) h)
 
-pub is-changed-spec : {M : Type 1} → statement M
-is-changed-spec =
+pub is_changed_spec : {M : Type 1} → statement M
+is_changed_spec =
     tie.close
     (tie.spec
     mul-if1

@@ -8,19 +8,19 @@ use borrow.Author.Rules.{rules}
 use Rattle.log_hops.proofs.is_marked.Statement.{statement}
 use Rattle.log_hops.proofs.is_marked.Tie as tie
 
-returns : tie.Need-returns
-returns c = sym (and-false-l _ _ (le-ltb _ _ c.if1.true))
+returns : tie.Need-returns-then-k-n
+returns c = sym (and-false-l _ _ (le-ltb _ _ c.if-k-n.true))
 
-add-is-changed : tie.Need-overflow-add-is-changed
+add-is-changed : tie.Need-overflow_add-from
 add-is-changed c = search rules
 
-is-changed-requires : tie.Need-is-changed-requires
+is-changed-requires : tie.Need-is_changed-requires
 is-changed-requires c κs = search rules
 
-returns-2 : tie.Need-returns-2
+returns-2 : tie.Need-returns
 returns-2 c =
     let a = c.before.before.before.before.args in
-    c.is-changed.ensures ∙ sym (ap (λ (b : Bool). b && changed a.n a.db.now a.power.now (a.from + a.k)) (lt-ltb _ _ c.before.if1.false))
+    c.is_changed.ensures ∙ sym (ap (λ (b : Bool). b && changed a.n a.db.now a.power.now (a.from + a.k)) (lt-ltb _ _ c.before.if-k-n.false))
 
-pub is-marked-spec : {M : Type 1} → statement M
-is-marked-spec = tie.close (tie.spec returns add-is-changed is-changed-requires returns-2)
+pub is_marked_spec : {M : Type 1} → statement M
+is_marked_spec = tie.close (tie.spec returns add-is-changed is-changed-requires returns-2)

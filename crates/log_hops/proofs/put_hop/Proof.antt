@@ -11,19 +11,19 @@ use borrow.Author.Rules.{rules}
 use Rattle.log_hops.proofs.put_hop.Statement.{statement}
 use Rattle.log_hops.proofs.put_hop.Tie as tie
 
-put-map-requires : tie.Need-put-map-requires
+put-map-requires : tie.Need-put_map-requires
 put-map-requires c κs = search rules
 
 width-requires : tie.Need-width-requires
 width-requires c κs = search rules
 
-add-put-pairs : tie.Need-overflow-add-put-pairs
+add-put-pairs : tie.Need-overflow_add-at
 add-put-pairs c = search rules
 
-put-pairs-requires : tie.Need-put-pairs-requires
+put-pairs-requires : tie.Need-put_pairs-requires
 put-pairs-requires c κs = search rules
 
-same_length : tie.Need-same-length
+same_length : tie.Need-shape_of-log
 same_length c = search rules
 
 returns : tie.Need-returns
@@ -36,12 +36,12 @@ returns c =
     let D : ℕ → ℕ = λ j. get_or a.db.now (a.from + j) 0 in
     let P : ℕ → ℕ = λ j. get_or a.power.now (a.from + j) 0 in
     let e : a.at + w.width.result ≡ a.at + width a.n = ap (λ (i : ℕ). a.at + i) w.width.ensures in (
-      omega (arith, q.put-pairs.ensures.0, e),
-      q.put-pairs.ensures.1 ∙ put_next a.at (a.at + w.width.result) (width a.n) (map_of a.n S) (pairs_of a.n S D P) a.log.now p.put_map.new.1.1.1.1.0 (length-map a.n S) e p.put_map.ensures (omega (arith, length_pairs S D P a.n)),
+      omega (arith, q.put_pairs.ensures.0, e),
+      q.put_pairs.ensures.1 ∙ put_next a.at (a.at + w.width.result) (width a.n) (map_of a.n S) (pairs_of a.n S D P) a.log-1.now p.put_map.new.1.1.1.1.0 (length-map a.n S) e p.put_map.ensures (omega (arith, length_pairs S D P a.n)),
     )
 
-pub put-hop-spec : {M : Type 1} → statement M
-put-hop-spec =
+pub put_hop_spec : {M : Type 1} → statement M
+put_hop_spec =
     tie.close
     (tie.spec
     put-map-requires
