@@ -1,4 +1,6 @@
 // Document 02, R-1: the bytes of one hop, for the writer of a log.
+#![tactic(auto)]
+
 ghost use Rattle.std.specs.Prelude.{◌≡◌, ◌&&◌, ◌+◌, ◌*◌, ◌%◌, ◌<◌, ◌≤◌, ltb, length, get_or};
 ghost use Rattle.laws.specs.Bits.{width, byte};
 ghost use Rattle.laws.specs.Tests.{tally};
