@@ -5,14 +5,14 @@ use borrow.Author.Rules.{rules}
 use Rattle.watch_batch.proofs.db_after.Statement.{statement}
 use Rattle.watch_batch.proofs.db_after.Tie as tie
 
-returns : tie.Need-returns
+returns : tie.Need-returns-then-started-eq0
 returns c = search rules
 
-smooth-step-requires : tie.Need-smooth-step-requires
+smooth-step-requires : tie.Need-smooth_step-requires
 smooth-step-requires c κs = search rules
 
-returns-2 : tie.Need-returns-2
-returns-2 c = c.smooth-step.ensures ∙ later _ _ _ c.before.if1.false
+returns-2 : tie.Need-returns
+returns-2 c = c.smooth_step.ensures ∙ later _ _ _ c.before.if-started-eq0.false
 
-pub db-after-spec : {M : Type 1} → statement M
-db-after-spec = tie.close (tie.spec returns smooth-step-requires returns-2)
+pub db_after_spec : {M : Type 1} → statement M
+db_after_spec = tie.close (tie.spec returns smooth-step-requires returns-2)

@@ -7,17 +7,17 @@ use Rattle.watch_batch.proofs.Batches.{start_small}
 use Rattle.watch_batch.proofs.start_of.Statement.{statement}
 use Rattle.watch_batch.proofs.start_of.Tie as tie
 
-hop-bytes-requires : tie.Need-hop-bytes-requires
+hop-bytes-requires : tie.Need-hop_bytes-requires
 hop-bytes-requires c κs = search rules
 
-small : (c : tie.After-hop-bytes) → c.hop-bytes.result * (c.before.args.hop % 15) < 16777216
-small c = subst (λ (b : ℕ). b * (c.before.args.hop % 15) < 16777216) (sym c.hop-bytes.ensures) (start_small c.before.args.n (c.before.args.hop % 15) (omega arith) (omega arith))
+small : (c : tie.After-hop_bytes) → c.hop_bytes.result * (c.before.args.hop % 15) < 16777216
+small c = subst (λ (b : ℕ). b * (c.before.args.hop % 15) < 16777216) (sym c.hop_bytes.ensures) (start_small c.before.args.n (c.before.args.hop % 15) (omega arith) (omega arith))
 
-mul-result : tie.Need-overflow-mul-result
+mul-result : tie.Need-overflow_mul-result
 mul-result c = omega (arith, small c)
 
 returns : tie.Need-returns
-returns c = (ap (λ (b : ℕ). b * (c.before.args.hop % 15)) c.hop-bytes.ensures, small c)
+returns c = (ap (λ (b : ℕ). b * (c.before.args.hop % 15)) c.hop_bytes.ensures, small c)
 
-pub start-of-spec : {M : Type 1} → statement M
-start-of-spec = tie.close (tie.spec hop-bytes-requires mul-result returns)
+pub start_of_spec : {M : Type 1} → statement M
+start_of_spec = tie.close (tie.spec hop-bytes-requires mul-result returns)
