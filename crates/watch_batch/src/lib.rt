@@ -1,5 +1,7 @@
 // A batch of hops of a recording: its bytes, how many hops they are, their values, and the gate's smoothed dB after each of them. It lies
 // within the 15 hops from a slow hop to the next, of which only the first moves the floors.
+#![tactic(auto)]
+
 ghost use Rattle.std.specs.Prelude.{◌≡◌, ◌+◌, ◌*◌, ◌<◌, ◌≤◌, length, get_or};
 ghost use Rattle.laws.specs.Lists.{tab};
 ghost use Rattle.model.specs.Numbers.{f0};
