@@ -3,41 +3,41 @@ use Rattle.std.proofs.Common.{◌≡◌, ◌-◌, ◌≤◌, length, rules}
 use Rattle.replay_data.proofs.hop.fill_db.Statement.{statement}
 use Rattle.replay_data.proofs.hop.fill_db.Tie as tie
 
-abbrev invariant-loop : tie.invariant-loop
+abbrev invariant-loop : tie.invariant-loop-k
 invariant-loop list at db₀ k₀ k-end db k = (k ≤ k-end) × (k-end ≡ length db₀) × (length db ≡ length db₀)
 
-abbrev decreases-loop : tie.decreases-loop
+abbrev decreases-loop : tie.decreases-loop-k
 decreases-loop list at db₀ k₀ k-end db k = k-end - k
 
-loop-holds : tie.Need-loop-init invariant-loop decreases-loop
+loop-holds : tie.Need-loop-k-init invariant-loop decreases-loop
 loop-holds c = search rules
 
-tabled-db-requires : tie.Need-tabled-db-requires invariant-loop decreases-loop
+tabled-db-requires : tie.Need-tabled_db-requires invariant-loop decreases-loop
 tabled-db-requires c κs = search rules
 
-mul-db : tie.Need-overflow-mul-db invariant-loop decreases-loop
+mul-db : tie.Need-offset_bounds-db-k invariant-loop decreases-loop
 mul-db c = search rules
 
-slice-write-db : tie.Need-slice-write-db invariant-loop decreases-loop
+slice-write-db : tie.Need-bounds-db-k invariant-loop decreases-loop
 slice-write-db c = search rules
 
-add-k : tie.Need-overflow-add-k invariant-loop decreases-loop
+add-k : tie.Need-overflow_step-k invariant-loop decreases-loop
 add-k c = search rules
 
-loop-less : tie.Need-loop-smaller invariant-loop decreases-loop
+loop-less : tie.Need-loop-k-smaller invariant-loop decreases-loop
 loop-less c = search rules
 
-loop-again : tie.Need-loop-preserved invariant-loop decreases-loop
+loop-again : tie.Need-loop-k-preserved invariant-loop decreases-loop
 loop-again c = search rules
 
-same_length : tie.Need-same-length invariant-loop decreases-loop
+same_length : tie.Need-shape_of-db invariant-loop decreases-loop
 same_length c = search rules
 
 returns : tie.Need-returns invariant-loop decreases-loop
 returns c = search rules
 
-pub fill-db-spec : {M : Type 1} → statement M
-fill-db-spec =
+pub fill_db_spec : {M : Type 1} → statement M
+fill_db_spec =
     tie.close
     (tie.spec
     invariant-loop
