@@ -1,4 +1,6 @@
 // The list that is replayed: its numbers and hops, how far a replay is, and what is compared.
+#![tactic(auto)]
+
 pub mod compare;
 pub mod hop;
 pub mod list;
