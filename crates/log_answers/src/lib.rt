@@ -1,4 +1,6 @@
 // The answers of the hop log taken apart for C: the number, and what is written behind the caller's references, only where it is 0.
+#![tactic(auto)]
+
 ghost use Rattle.std.specs.Prelude.{◌≡◌};
 ghost use Rattle.log_answers.specs.LogAnswers.{length_answered, channels_answered, place_answered};
 
