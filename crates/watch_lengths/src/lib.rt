@@ -1,4 +1,6 @@
 // Window lengths as a word of the command line.
+#![tactic(auto)]
+
 ghost use Rattle.std.specs.Prelude.{◌≡◌, ◌<◌};
 ghost use Rattle.watch_lengths.specs.Lengths.{begun as lengths_begun, wrong as lengths_wrong, ended, digit, step, lengths_of};
 

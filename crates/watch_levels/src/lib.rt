@@ -1,4 +1,6 @@
 // Levels as words of the command line, and as the gate takes them.
+#![tactic(auto)]
+
 ghost use Rattle.std.specs.Prelude.{◌≡◌, false, ◌&&◌, ◌≤◌, ◌<◌, eqb, ltb};
 ghost use Rattle.watch_levels.specs.Levels.{nothing as levels_nothing, wrong as levels_wrong, pointed, whole_digit, part_digit};
 ghost use Rattle.watch_levels.specs.Levels.{digit as levels_digit, step, decimal_of, level, no_level, whole_eighths, level_of, signed_of};

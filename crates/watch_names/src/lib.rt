@@ -1,4 +1,6 @@
 // The words of a report for changes, states, events and refusals.
+#![tactic(auto)]
+
 ghost use Rattle.std.specs.Prelude.{◌≡◌};
 ghost use Rattle.watch_text.specs.Text.{put_all};
 ghost use Rattle.watch_names.specs.Names.{change_name, state_name, event_name, refusal_name, request_refusal_name};

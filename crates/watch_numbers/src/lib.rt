@@ -1,4 +1,6 @@
 // Numbers as words of the command line: a channel and a span of slow hops. 0 is the answer to a word that is none.
+#![tactic(auto)]
+
 ghost use Rattle.std.specs.Prelude.{◌≡◌, ◌<◌};
 ghost use mathlib.Core.List.{foldl};
 ghost use Rattle.watch_numbers.specs.Numbers.{step, channel_of, span_of};

@@ -1,4 +1,6 @@
 // The bytes of a recording.
+#![tactic(auto)]
+
 ghost use Rattle.std.specs.Prelude.{◌≡◌, ◌+◌, ◌*◌, ◌%◌, ◌<◌, true, false, length, ◌==◌};
 ghost use Rattle.laws.specs.Lists.{tab};
 ghost use Rattle.low_first.specs.LowFirst.{double_at, single_at};

@@ -1,4 +1,6 @@
 // Which channels are alive. Marks and states are bytes, 1 where set, as the gate writes its marks.
+#![tactic(auto)]
+
 ghost use Rattle.std.specs.Prelude.{◌≡◌, length, slice_index};
 ghost use Rattle.laws.specs.Lists.{tab, one};
 ghost use Rattle.watch_states.specs.States.{state_after, states_after, counts_after, change_of, change_at, rises_after, events_after, hop_closed, is_set};
