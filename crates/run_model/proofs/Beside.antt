@@ -3,7 +3,7 @@ use mathlib.Core.Path.{◌≡◌, refl, sym, ap, ap₂, ◌∙◌}
 use mathlib.Core.Bool.{Bool, true, false}
 use mathlib.Core.List.{List, [], ◌∷◌, ◌++◌}
 use Prim.Native.Nat.{ℕ}
-use Rattle.model.specs.Demand3.{Stores, gate, does, step, left, left_by, rises_done, rises_of}
+use Rattle.model.specs.Demand3.{Stores, does, step, left, left_by, rises_done, rises_of}
 use Rattle.roles.specs.Rights.{as_role}
 use Rattle.run_model.specs.Runs.{RunHop, is_held, bank_call, gate_call, calls_of, drops_done, drops_of, rises_by, drops_by, alone}
 use Rattle.run_model.specs.Claims.{with_run}

@@ -12,10 +12,10 @@ use borrow.Author.Tests.{eqb-true}
 use Rattle.laws.specs.Tests.{differ, first}
 use Rattle.laws.proofs.Tests.{by-test, neither, passed, same_of, or_l, or_r, clash}
 use Rattle.model.specs.GateCalls.{pair_refusal}
-use Rattle.model.specs.Demand3.{Stores, left_by}
+use Rattle.model.specs.Demand3.{Stores}
 use Rattle.roles.specs.Rights.{receive, may, as_role}
-use Rattle.run_model.specs.Runs.{Run, hops_of, hops_from, rises_by, drops_by, garbled_run, not_long, run_refusal, Received, alone, run_leaves, received}
-use Rattle.run_model.specs.Claims.{refusal_on, received_on, calls_on, with_run, AcceptedRun, RefusedExactly, NoHops, is_heard, AsList, ReceiveDoes}
+use Rattle.run_model.specs.Runs.{Run, hops_of, hops_from, garbled_run, not_long, run_refusal, Received, alone, run_leaves, received}
+use Rattle.run_model.specs.Claims.{refusal_on, received_on, with_run, AcceptedRun, RefusedExactly, NoHops, is_heard, AsList, ReceiveDoes}
 use Rattle.run_model.proofs.Taken.{fit_of}
 use Rattle.run_model.proofs.Beside.{run-over, run-rises, run-drops}
 use Rattle.run_model.proofs.Runs.{AllLong, hops-long, none_refused, refused-exactly}

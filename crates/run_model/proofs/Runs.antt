@@ -1,8 +1,8 @@
 -- A run's hops one after another: each is of n channels; none of their calls is refused unless a slow one is garbled, and then one is. Assumes nothing.
 use mathlib.Core.Path.{◌≡◌, refl, sym, ap, ◌∙◌}
-use mathlib.Core.Bool.{Bool, true, false, not, ◌&&◌, ◌||◌}
+use mathlib.Core.Bool.{Bool, false, not, ◌||◌}
 use mathlib.Core.List.{List, [], ◌∷◌}
-use Prim.Native.Nat.{ℕ, zero, suc, ◌+◌, ◌*◌, ◌%◌}
+use Prim.Native.Nat.{ℕ, suc, ◌+◌, ◌*◌, ◌%◌}
 use native.Mathlib.Nat.{suc-mul}
 use native.Mathlib.Omega.{arith}
 use lib.Dec.{eqb}
@@ -11,12 +11,11 @@ use lib.Seq.{length-take-le}
 use lib.Ieee.{Float}
 use Rattle.laws.proofs.Tests.{by-test, or_l, or_r}
 use Rattle.model.specs.Layout.{decimation_hops}
-use Rattle.model.specs.Refusals.{garbled}
-use Rattle.model.specs.Demand3.{Stores, Call, answer, answers, left}
+use Rattle.model.specs.Demand3.{Stores, answers, left}
 use Rattle.run_model.specs.Runs.{RunHop, hops_from, bank_call, gate_call, calls_of, garbled_run}
 use Rattle.run_model.specs.Hops.{Fit, Long, garbled_hop, hop_left}
 use Rattle.run_model.specs.Claims.{any_refused}
-use Rattle.run_model.proofs.Taken.{bank-answer, bank-refused, bank-accepted, bank-fits, bank-phase, gate-taken, gate-bank}
+use Rattle.run_model.proofs.Taken.{bank-refused, bank-accepted, bank-fits, bank-phase, gate-taken, gate-bank}
 
 abbrev pub AllLong : ℕ → List RunHop → Type 0
 AllLong n [] = Unit {0}

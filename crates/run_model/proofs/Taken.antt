@@ -1,7 +1,7 @@
 -- One hop of a run on a bank and a gate that pass: its bank call is refused exactly where its hop is slow and garbled, its gate call never, and
 -- both leave a bank and a gate that pass. What stands beside them plays no part. Assumes nothing.
 use mathlib.Core.Path.{◌≡◌, refl, sym, ap, ◌∙◌}
-use mathlib.Core.Bool.{Bool, true, false, not}
+use mathlib.Core.Bool.{Bool, true, false}
 use Prim.Native.Nat.{ℕ, zero, suc, ◌+◌, ◌%◌}
 use native.Mathlib.Omega.{arith}
 use lib.ListN.{length, get_or}
@@ -10,13 +10,13 @@ use Rattle.laws.proofs.Tests.{neither, passed, same_of, agrees}
 use Rattle.model.specs.Layout.{decimation_hops}
 use Rattle.model.specs.Bank.{FloorBank, hop, bank_step}
 use Rattle.model.specs.Stores.{bank_of}
-use Rattle.model.specs.Refusals.{bank_refusal, garbled, update_refusal}
+use Rattle.model.specs.Refusals.{bank_refusal, update_refusal}
 use Rattle.model.specs.Gate.{Gate, gate_step, refresh, update_step}
 use Rattle.model.specs.GateStores.{gate_of}
 use Rattle.model.specs.GateCalls.{gate_refusal, pair_refusal, gate_update_refusal, hold_refusal, gate_leaves, gate_update_call, gate_hold_call}
 use Rattle.model.proofs.GoodBanks.{ready}
 use Rattle.model.proofs.GoodGates.{gate-ready, n-of}
-use Rattle.model.specs.Demand3.{Stores, bank, gate, does, step, answer, left}
+use Rattle.model.specs.Demand3.{Stores, gate, does, step, answer, left}
 use Rattle.model.proofs.SettledFloors.{n-step, phase-step}
 use Rattle.model.proofs.Carrying.{leaves-bank, answer-alone}
 use Rattle.model.proofs.Calls.{gate_after, leaves-gate, leaves-hold}

@@ -1,6 +1,6 @@
 -- A run of hops (after R-14): a receiver that hands over many hops at once has the stores tested once. It is the single calls of its hops, one
 -- after another, as demand 3's lists have them, or nothing at all.
-use Rattle.std.specs.Prelude.{Bool, true, false, not, cond, ◌&&◌, ◌||◌, List, [], ◌∷◌, ◌++◌, ℕ, zero, suc, ◌+◌, ◌*◌, ◌%◌, eqb, length, get_or, take, drop as after, Float}
+use Rattle.std.specs.Prelude.{Bool, false, not, cond, ◌&&◌, ◌||◌, List, [], ◌∷◌, ◌++◌, ℕ, zero, suc, ◌+◌, ◌*◌, ◌%◌, eqb, length, get_or, take, drop as after, Float}
 use Rattle.laws.specs.Tests.{differ, first}
 use Rattle.model.specs.Layout.{decimation_hops}
 use Rattle.model.specs.Bank.{hop}
