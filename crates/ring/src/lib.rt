@@ -1,4 +1,6 @@
 // Document 01, "Ring and quartile": the bin of a dB value and the push into a channel's ring.
+#![tactic(auto)]
+
 ghost use Rattle.std.specs.Prelude.{◌≡◌, ◌+◌, ◌-◌, ◌%◌, ◌<◌, ◌≤◌, true, ◌&&◌, length, ◌==◌, slice_index};
 ghost use Rattle.laws.specs.Lists.{one};
 ghost use Rattle.model.specs.Layout.{bins, ring_len, at_filled, channel_len};

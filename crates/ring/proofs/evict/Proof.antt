@@ -30,7 +30,7 @@ sub-chan : tie.Need-overflow_sub-chan
 sub-chan c =
     let w = c.before.before in
     let o = w.before.oldest_bin-oldest in
-    let s = w.before.before.before.before in
+    let s = w.before.before.before in
     let l = s.args.chan.now in
     omega (
       arith,
@@ -58,7 +58,7 @@ returns : tie.Need-returns
 returns c =
     let w = c.before.before.before in
     let o = w.before.oldest_bin-oldest in
-    let s = w.before.before.before.before in
+    let s = w.before.before.before in
     rw (c.lead_left.ensures, w.wide-at.ensures)
     (evicted s.args.chan.now s.requires.0.0 o.result o.ensures.0 o.ensures.1)
 

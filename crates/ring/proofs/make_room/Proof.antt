@@ -23,7 +23,7 @@ same_length c = search rules
 returns : tie.Need-returns-then-filled-eq-RING_LEN_U16
 returns c =
     let s = c.before.before.before.before.before.before.before in
-    rw (eq-eqb (get_or s.args.chan_1.now at_filled 0) ring_len (omega arith)) c.before.before.evict.ensures
+    rw (eq-eqb (get_or s.args.chan.now at_filled 0) ring_len (omega arith)) c.before.before.evict.ensures
 
 same-length-2 : tie.Need-shape_of-chan-else-filled-eq-RING_LEN_U16
 same-length-2 c = search rules
@@ -31,7 +31,7 @@ same-length-2 c = search rules
 returns-2 : tie.Need-returns-else-filled-eq-RING_LEN_U16
 returns-2 c =
     let s = c.before.before.before in
-    rw (ne_eqb (get_or s.args.chan_1.now at_filled 0) ring_len (λ e. omega arith)) (grown s.args.chan_1.now s.requires.0)
+    rw (ne_eqb (get_or s.args.chan.now at_filled 0) ring_len (λ e. omega arith)) (grown s.args.chan.now s.requires.0)
 
 pub make_room_spec : {M : Type 1} → statement M
 make_room_spec =

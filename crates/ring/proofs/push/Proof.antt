@@ -16,7 +16,7 @@ enter-requires : tie.Need-enter-requires
 enter-requires c κs =
     let m = c.before.before.before.before in
     let s = m.before.before.before in
-    (subst Roomy (sym m.make_room.ensures) (roomy s.args.chan_1.now s.requires.0.0 (eqb (get_or s.args.chan_1.now at_filled 0) ring_len) s.requires.0.1), (s.requires.1, c.lead_rise.ensures.1))
+    (subst Roomy (sym m.make_room.ensures) (roomy s.args.chan.now s.requires.0.0 (eqb (get_or s.args.chan.now at_filled 0) ring_len) s.requires.0.1), (s.requires.1, c.lead_rise.ensures.1))
 
 same_length : tie.Need-shape_of-chan
 same_length c = search rules
@@ -28,7 +28,7 @@ returns c =
     let m = r.before.before.before.before in
     let s = m.before.before.before in
     e.enter.ensures
-    ∙ pushed s.args.chan_1.now s.requires.0.0 m.make_room.new.0 s.args.quiet s.args.bin r.lead_rise.result m.make_room.ensures r.lead_rise.ensures.0
+    ∙ pushed s.args.chan.now s.requires.0.0 m.make_room.new.chan s.args.quiet s.args.bin r.lead_rise.result m.make_room.ensures r.lead_rise.ensures.0
 
 pub push_spec : {M : Type 1} → statement M
 push_spec =
