@@ -3,14 +3,14 @@ use Rattle.laws.proofs.Floats.{ne-self}
 use Rattle.block.proofs.least.Statement.{statement}
 use Rattle.block.proofs.least.Tie as tie
 
-returns : tie.Need-returns
-returns c = simp (← ne-self, c.if1.true)
+returns : tie.Need-returns-then-a
+returns c = simp (← ne-self, c.if-a.true)
 
-returns-2 : tie.Need-returns-2
-returns-2 c = simp (← ne-self, c.before.if1.false, c.if2.true)
+returns-2 : tie.Need-returns-then-b-a
+returns-2 c = simp (← ne-self, c.before.if-a.false, c.if-b-a.true)
 
-returns-3 : tie.Need-returns-3
-returns-3 c = simp (← ne-self, c.before.if1.false, c.if2.false)
+returns-3 : tie.Need-returns-else-b-a
+returns-3 c = simp (← ne-self, c.before.if-a.false, c.if-b-a.false)
 
-pub least-spec : {M : Type 1} → statement M
-least-spec = tie.close (tie.spec returns returns-2 returns-3)
+pub least_spec : {M : Type 1} → statement M
+least_spec = tie.close (tie.spec returns returns-2 returns-3)

@@ -5,17 +5,17 @@ use borrow.Author.Rules.{rules}
 use Rattle.block.proofs.seeds.pushes_after.Statement.{statement}
 use Rattle.block.proofs.seeds.pushes_after.Tie as tie
 
-takes-seed-requires : tie.Need-takes-seed-requires
+takes-seed-requires : tie.Need-takes_seed-requires
 takes-seed-requires c κs = search rules
 
-add-result : tie.Need-overflow-add-result
+add-result : tie.Need-overflow_add-result
 add-result c = search rules
 
-returns : tie.Need-returns
-returns c = rw (sym c.before.takes-seed.ensures, c.if1.true)
+returns : tie.Need-returns-then-takes_seed
+returns c = rw (sym c.before.takes_seed.ensures, c.if-takes_seed.true)
 
-returns-2 : tie.Need-returns-2
-returns-2 c = rw (sym c.before.takes-seed.ensures, c.if1.false) (omega arith)
+returns-2 : tie.Need-returns
+returns-2 c = rw (sym c.before.takes_seed.ensures, c.if-takes_seed.false) (omega arith)
 
-pub pushes-after-spec : {M : Type 1} → statement M
-pushes-after-spec = tie.close (tie.spec takes-seed-requires add-result returns returns-2)
+pub pushes_after_spec : {M : Type 1} → statement M
+pushes_after_spec = tie.close (tie.spec takes-seed-requires add-result returns returns-2)

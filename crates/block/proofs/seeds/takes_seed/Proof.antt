@@ -3,11 +3,11 @@ use borrow.Author.Tests.{lt-ltb, le-ltb}
 use Rattle.block.proofs.seeds.takes_seed.Statement.{statement}
 use Rattle.block.proofs.seeds.takes_seed.Tie as tie
 
-returns : tie.Need-returns
-returns c = simp (le-ltb c.before.args.pushes 25 c.if1.true)
+returns : tie.Need-returns-then-pushes-ge25
+returns c = simp (le-ltb c.before.args.pushes 25 c.if-pushes-ge25.true)
 
-returns-2 : tie.Need-returns-2
-returns-2 c = simp (lt-ltb c.before.args.pushes 25 c.if1.false)
+returns-2 : tie.Need-returns
+returns-2 c = simp (lt-ltb c.before.args.pushes 25 c.if-pushes-ge25.false)
 
-pub takes-seed-spec : {M : Type 1} → statement M
-takes-seed-spec = tie.close (tie.spec returns returns-2)
+pub takes_seed_spec : {M : Type 1} → statement M
+takes_seed_spec = tie.close (tie.spec returns returns-2)
