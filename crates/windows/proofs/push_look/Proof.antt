@@ -18,11 +18,11 @@ use borrow.Author.Rules.{rules}
 use Rattle.windows.proofs.push_look.Statement.{statement}
 use Rattle.windows.proofs.push_look.Tie as tie
 
-abbrev invariant-loop : tie.invariant-loop
+abbrev invariant-loop : tie.invariant-loop-k
 invariant-loop look₀ samples middle at m n recent previous k₀ look k =
     (k ≤ n) × (look ≡ pushed_to (sample_at samples) (look_of n m at 0 look₀) k) × (length look ≡ length look₀)
 
-abbrev decreases-loop : tie.decreases-loop
+abbrev decreases-loop : tie.decreases-loop-k
 decreases-loop look₀ samples middle at m n recent previous k₀ look k = n - k
 
 -- the windows as they are at the start
@@ -33,28 +33,28 @@ shaped : (s : tie.Start invariant-loop decreases-loop) → Shaped (length s.args
 shaped s = read-shaped (length s.args.samples.now) s.args.c.m s.args.c.at s.args.c.filled s.args.look.now s.requires.0.long
 
 -- channel k's ring is within the rings
-ring-fits : (i : tie.In-loop invariant-loop decreases-loop)
+ring-fits : (i : tie.In-loop-k invariant-loop decreases-loop)
     → (let l = i.before in
     let s = l.before.before.before.before in
-    2 * s.args.c.m * l.loop.k + 2 * s.args.c.m ≤ 2 * s.args.c.m * length s.args.samples.now)
+    2 * s.args.c.m * l.loop-k.k + 2 * s.args.c.m ≤ 2 * s.args.c.m * length s.args.samples.now)
 ring-fits i =
     let l = i.before in
     let s = l.before.before.before.before in
-    row (2 * s.args.c.m) l.loop.k (length s.args.samples.now) i.loop-test.true
+    row (2 * s.args.c.m) l.loop-k.k (length s.args.samples.now) i.loop-k-test.true
 
-middle-requires : tie.Need-middle-requires invariant-loop decreases-loop
+middle-requires : tie.Need-middle-half-requires invariant-loop decreases-loop
 middle-requires c κs = search rules
 
-mul-recent : tie.Need-overflow-mul-recent invariant-loop decreases-loop
+mul-recent : tie.Need-overflow_mul-recent invariant-loop decreases-loop
 mul-recent c = search rules
 
-mul-recent-2 : tie.Need-overflow-mul-recent-2 invariant-loop decreases-loop
+mul-recent-2 : tie.Need-overflow_mul-recent-2 invariant-loop decreases-loop
 mul-recent-2 c = search rules
 
-add-previous : tie.Need-overflow-add-previous invariant-loop decreases-loop
+add-previous : tie.Need-overflow_add-previous invariant-loop decreases-loop
 add-previous c = search rules
 
-loop-holds : tie.Need-loop-init invariant-loop decreases-loop
+loop-holds : tie.Need-loop-k-init invariant-loop decreases-loop
 loop-holds c =
     let s = c.before.before.before in (
       omega arith,
@@ -63,103 +63,103 @@ loop-holds c =
       refl,
     )
 
-mul-ring : tie.Need-overflow-mul-ring invariant-loop decreases-loop
+mul-ring : tie.Need-overflow_mul-ring invariant-loop decreases-loop
 mul-ring c = search rules
 
-mul-ring-2 : tie.Need-overflow-mul-ring-2 invariant-loop decreases-loop
+mul-ring-2 : tie.Need-overflow_mul-ring-in-loop-k invariant-loop decreases-loop
 mul-ring-2 c = omega (arith, ring-fits c)
 
-mul-sample : tie.Need-overflow-mul-sample invariant-loop decreases-loop
+mul-sample : tie.Need-offset_bounds-samples-k invariant-loop decreases-loop
 mul-sample c = search rules
 
-shared-slice-read-sample : tie.Need-shared-slice-read-sample invariant-loop decreases-loop
+shared-slice-read-sample : tie.Need-bounds-samples-k invariant-loop decreases-loop
 shared-slice-read-sample c = search rules
 
-add-old : tie.Need-overflow-add-old invariant-loop decreases-loop
+add-old : tie.Need-overflow_add-old invariant-loop decreases-loop
 add-old c = omega (arith, ring-fits c.before)
 
-mul-old : tie.Need-overflow-mul-old invariant-loop decreases-loop
+mul-old : tie.Need-offset_bounds-look-ring invariant-loop decreases-loop
 mul-old c = omega (arith, ring-fits c.before)
 
-slice-read-old : tie.Need-slice-read-old invariant-loop decreases-loop
+slice-read-old : tie.Need-bounds-look-ring invariant-loop decreases-loop
 slice-read-old c = omega (arith, ring-fits c.before.before)
 
-add-mid : tie.Need-overflow-add-mid invariant-loop decreases-loop
+add-mid : tie.Need-overflow_add-mid invariant-loop decreases-loop
 add-mid c = omega (arith, ring-fits c.before.before)
 
-mul-mid : tie.Need-overflow-mul-mid invariant-loop decreases-loop
+mul-mid : tie.Need-offset_bounds-look-ring-in-loop-k invariant-loop decreases-loop
 mul-mid c = omega (arith, ring-fits c.before.before)
 
-slice-read-mid : tie.Need-slice-read-mid invariant-loop decreases-loop
+slice-read-mid : tie.Need-bounds-look-ring-in-loop-k invariant-loop decreases-loop
 slice-read-mid c = omega (arith, ring-fits c.before.before.before)
 
-add-p : tie.Need-overflow-add-p invariant-loop decreases-loop
+add-p : tie.Need-overflow_add-p invariant-loop decreases-loop
 add-p c = search rules
 
-mul-p : tie.Need-overflow-mul-p invariant-loop decreases-loop
+mul-p : tie.Need-offset_bounds-look-previous invariant-loop decreases-loop
 mul-p c = search rules
 
-slice-read-p : tie.Need-slice-read-p invariant-loop decreases-loop
+slice-read-p : tie.Need-bounds-look-previous invariant-loop decreases-loop
 slice-read-p c = search rules
 
-add_r : tie.Need-overflow-add-r invariant-loop decreases-loop
+add_r : tie.Need-overflow_add-r invariant-loop decreases-loop
 add_r c = search rules
 
-mul-r : tie.Need-overflow-mul-r invariant-loop decreases-loop
+mul-r : tie.Need-offset_bounds-look-recent invariant-loop decreases-loop
 mul-r c = search rules
 
-slice-read-r : tie.Need-slice-read-r invariant-loop decreases-loop
+slice-read-r : tie.Need-bounds-look-recent invariant-loop decreases-loop
 slice-read-r c = search rules
 
-add-look : tie.Need-overflow-add-look invariant-loop decreases-loop
+add-look : tie.Need-overflow_add-look invariant-loop decreases-loop
 add-look c = search rules
 
-mul-look : tie.Need-overflow-mul-look invariant-loop decreases-loop
+mul-look : tie.Need-offset_bounds-look-previous-in-loop-k invariant-loop decreases-loop
 mul-look c = search rules
 
-slice-write-look : tie.Need-slice-write-look invariant-loop decreases-loop
+slice-write-look : tie.Need-bounds-look-previous-in-loop-k invariant-loop decreases-loop
 slice-write-look c = search rules
 
-add-look-2 : tie.Need-overflow-add-look-2 invariant-loop decreases-loop
+add-look-2 : tie.Need-overflow_add-look-in-loop-k invariant-loop decreases-loop
 add-look-2 c = search rules
 
-mul-look-2 : tie.Need-overflow-mul-look-2 invariant-loop decreases-loop
+mul-look-2 : tie.Need-offset_bounds-look-recent-in-loop-k invariant-loop decreases-loop
 mul-look-2 c = search rules
 
-slice-write-look-2 : tie.Need-slice-write-look-2 invariant-loop decreases-loop
+slice-write-look-2 : tie.Need-bounds-look-recent-in-loop-k invariant-loop decreases-loop
 slice-write-look-2 c = simp length-set (omega (arith, ring-fits c.before.before.before.before.before))
 
-add-look-3 : tie.Need-overflow-add-look-3 invariant-loop decreases-loop
+add-look-3 : tie.Need-overflow_add-look-in-loop-k-2 invariant-loop decreases-loop
 add-look-3 c = omega (arith, ring-fits c.before.before.before.before.before)
 
-mul-look-3 : tie.Need-overflow-mul-look-3 invariant-loop decreases-loop
+mul-look-3 : tie.Need-offset_bounds-look-ring-in-loop-k-2 invariant-loop decreases-loop
 mul-look-3 c = omega (arith, ring-fits c.before.before.before.before.before)
 
-slice-write-look-3 : tie.Need-slice-write-look-3 invariant-loop decreases-loop
+slice-write-look-3 : tie.Need-bounds-look-ring-in-loop-k-2 invariant-loop decreases-loop
 slice-write-look-3 c = simp length-set (omega (arith, ring-fits c.before.before.before.before.before))
 
-add-k : tie.Need-overflow-add-k invariant-loop decreases-loop
+add-k : tie.Need-overflow_add-k invariant-loop decreases-loop
 add-k c = search rules
 
-loop-less : tie.Need-loop-smaller invariant-loop decreases-loop
+loop-less : tie.Need-loop-k-smaller invariant-loop decreases-loop
 loop-less c = search rules
 
-loop-again : tie.Need-loop-preserved invariant-loop decreases-loop
+loop-again : tie.Need-loop-k-preserved invariant-loop decreases-loop
 loop-again c =
     let i = c.before.before.before.before.before in
     let l = i.before in
     let q = l.before in
     let s = q.before.before.before in
-    let k = l.loop.k in
+    let k = l.loop-k.k in
     let p = s.args.samples.now in (
-      omega (arith, i.loop-test.true),
-      push-turns (sample_at p) (length p) (looks s) (shaped s) k i.loop-test.true s.requires.1.at_below q.middle.result.place l.loop.look
-          (get_or p k nan) (ap (λ (r : Middle). r.place) q.middle.ensures.0) q.middle.ensures.1 l.loop.invariant.1
-          (get_d_any p k nan f0 i.loop-test.true),
-      simp length-set l.loop.invariant.2,
+      omega (arith, i.loop-k-test.true),
+      push-turns (sample_at p) (length p) (looks s) (shaped s) k i.loop-k-test.true s.requires.1.at_below q.middle-half.result.place l.loop-k.look
+          (get_or p k nan) (ap (λ (r : Middle). r.place) q.middle-half.ensures.0) q.middle-half.ensures.1 l.loop-k.invariant.1
+          (get_d_any p k nan f0 i.loop-k-test.true),
+      simp length-set l.loop-k.invariant.2,
     )
 
-same_length : tie.Need-same-length invariant-loop decreases-loop
+same_length : tie.Need-shape_of-look invariant-loop decreases-loop
 same_length c = search rules
 
 returns : tie.Need-returns invariant-loop decreases-loop
@@ -167,12 +167,12 @@ returns c =
     let l = c.before in
     let s = l.before.before.before.before in
     let p = s.args.samples.now in
-    l.loop.invariant.1
-    ∙ ap (pushed_to (sample_at p) (looks s)) (le_antisymm l.loop.invariant.0 c.loop-test.false)
+    l.loop-k.invariant.1
+    ∙ ap (pushed_to (sample_at p) (looks s)) (le_antisymm l.loop-k.invariant.0 c.loop-k-test.false)
     ∙ push-done (sample_at p) (length p) (looks s) (shaped s)
 
-pub push-look-spec : {M : Type 1} → statement M
-push-look-spec =
+pub push_look_spec : {M : Type 1} → statement M
+push_look_spec =
     tie.close
     (tie.spec
     invariant-loop

@@ -15,10 +15,10 @@ use borrow.Author.Rules.{rules}
 use Rattle.windows.proofs.rebase_look.Statement.{statement}
 use Rattle.windows.proofs.rebase_look.Tie as tie
 
-abbrev invariant-loop : tie.invariant-loop
+abbrev invariant-loop : tie.invariant-loop-k
 invariant-loop look₀ n m recent previous k₀ look k = (k ≤ n) × (look ≡ rebased_to (look_of n m 0 0 look₀) k) × (length look ≡ length look₀)
 
-abbrev decreases-loop : tie.decreases-loop
+abbrev decreases-loop : tie.decreases-loop-k
 decreases-loop look₀ n m recent previous k₀ look k = n - k
 
 -- the windows as they are at the start
@@ -29,25 +29,25 @@ shaped : (s : tie.Start invariant-loop decreases-loop) → Shaped s.args.n (look
 shaped s = read-shaped s.args.n s.args.c.m s.args.c.at s.args.c.filled s.args.look.now s.requires.long
 
 -- channel k's ring is within the rings
-ring-fits : (i : tie.In-loop invariant-loop decreases-loop)
+ring-fits : (i : tie.In-loop-k invariant-loop decreases-loop)
     → (let l = i.before in
     let s = l.before.before in
-    2 * s.args.c.m * l.loop.k + 2 * s.args.c.m ≤ 2 * s.args.c.m * s.args.n)
+    2 * s.args.c.m * l.loop-k.k + 2 * s.args.c.m ≤ 2 * s.args.c.m * s.args.n)
 ring-fits i =
     let l = i.before in
     let s = l.before.before in
-    row (2 * s.args.c.m) l.loop.k s.args.n i.loop-test.true
+    row (2 * s.args.c.m) l.loop-k.k s.args.n i.loop-k-test.true
 
-mul-recent : tie.Need-overflow-mul-recent invariant-loop decreases-loop
+mul-recent : tie.Need-overflow_mul-recent invariant-loop decreases-loop
 mul-recent c = search rules
 
-mul-recent-2 : tie.Need-overflow-mul-recent-2 invariant-loop decreases-loop
+mul-recent-2 : tie.Need-overflow_mul-recent-2 invariant-loop decreases-loop
 mul-recent-2 c = search rules
 
-add-previous : tie.Need-overflow-add-previous invariant-loop decreases-loop
+add-previous : tie.Need-overflow_add-previous invariant-loop decreases-loop
 add-previous c = search rules
 
-loop-holds : tie.Need-loop-init invariant-loop decreases-loop
+loop-holds : tie.Need-loop-k-init invariant-loop decreases-loop
 loop-holds c =
     let s = c.before in (
       omega arith,
@@ -55,100 +55,100 @@ loop-holds c =
       refl,
     )
 
-mul-start : tie.Need-overflow-mul-start invariant-loop decreases-loop
+mul-start : tie.Need-overflow_mul-start invariant-loop decreases-loop
 mul-start c = search rules
 
-mul-start-2 : tie.Need-overflow-mul-start-2 invariant-loop decreases-loop
+mul-start-2 : tie.Need-overflow_mul-start-in-loop-k invariant-loop decreases-loop
 mul-start-2 c = omega (arith, ring-fits c)
 
-add-middle : tie.Need-overflow-add-middle invariant-loop decreases-loop
+add-middle : tie.Need-overflow_add-middle invariant-loop decreases-loop
 add-middle c = omega (arith, ring-fits c)
 
-add-end : tie.Need-overflow-add-end invariant-loop decreases-loop
+add-end : tie.Need-overflow_add-end invariant-loop decreases-loop
 add-end c = omega (arith, ring-fits c)
 
-mul-sum : tie.Need-overflow-mul-sum invariant-loop decreases-loop
+mul-sum : tie.Need-offset_bounds-look-start invariant-loop decreases-loop
 mul-sum c = omega (arith, ring-fits c)
 
-sub-sum : tie.Need-overflow-sub-sum invariant-loop decreases-loop
+sub-sum : tie.Need-slice_bounds-sum-count invariant-loop decreases-loop
 sub-sum c = search rules
 
-part-sum-start : tie.Need-slice-bounds-sum-start invariant-loop decreases-loop
+part-sum-start : tie.Need-slice_bounds-sum-start invariant-loop decreases-loop
 part-sum-start c = search rules
 
-part-sum-end : tie.Need-slice-bounds-sum-end invariant-loop decreases-loop
+part-sum-end : tie.Need-slice_bounds-sum-end invariant-loop decreases-loop
 part-sum-end c = omega (arith, ring-fits c.before)
 
-sum-requires : tie.Need-sum-requires invariant-loop decreases-loop
+sum-requires : tie.Need-sum-p-requires invariant-loop decreases-loop
 sum-requires c κs = search rules
 
-mul-sum-2 : tie.Need-overflow-mul-sum-2 invariant-loop decreases-loop
+mul-sum-2 : tie.Need-offset_bounds-look-middle invariant-loop decreases-loop
 mul-sum-2 c = omega (arith, ring-fits c.before.before.before)
 
-sub-sum-2 : tie.Need-overflow-sub-sum-2 invariant-loop decreases-loop
+sub-sum-2 : tie.Need-slice_bounds-sum-count-in-loop-k invariant-loop decreases-loop
 sub-sum-2 c = search rules
 
-part-sum-start-2 : tie.Need-slice-bounds-sum-start-2 invariant-loop decreases-loop
+part-sum-start-2 : tie.Need-slice_bounds-sum-start-in-loop-k invariant-loop decreases-loop
 part-sum-start-2 c = search rules
 
-part-sum-end-2 : tie.Need-slice-bounds-sum-end-2 invariant-loop decreases-loop
+part-sum-end-2 : tie.Need-slice_bounds-sum-end-in-loop-k invariant-loop decreases-loop
 part-sum-end-2 c = omega (arith, ring-fits c.before.before.before.before)
 
-sum-requires-2 : tie.Need-sum-requires-2 invariant-loop decreases-loop
+sum-requires-2 : tie.Need-sum-r-requires invariant-loop decreases-loop
 sum-requires-2 c κs = search rules
 
-add-look : tie.Need-overflow-add-look invariant-loop decreases-loop
+add-look : tie.Need-overflow_add-look invariant-loop decreases-loop
 add-look c = search rules
 
-mul-look : tie.Need-overflow-mul-look invariant-loop decreases-loop
+mul-look : tie.Need-offset_bounds-look-previous invariant-loop decreases-loop
 mul-look c = search rules
 
-slice-write-look : tie.Need-slice-write-look invariant-loop decreases-loop
+slice-write-look : tie.Need-bounds-look-previous invariant-loop decreases-loop
 slice-write-look c = search rules
 
-add-look-2 : tie.Need-overflow-add-look-2 invariant-loop decreases-loop
+add-look-2 : tie.Need-overflow_add-look-in-loop-k invariant-loop decreases-loop
 add-look-2 c = search rules
 
-mul-look-2 : tie.Need-overflow-mul-look-2 invariant-loop decreases-loop
+mul-look-2 : tie.Need-offset_bounds-look-recent invariant-loop decreases-loop
 mul-look-2 c = search rules
 
-slice-write-look-2 : tie.Need-slice-write-look-2 invariant-loop decreases-loop
+slice-write-look-2 : tie.Need-bounds-look-recent invariant-loop decreases-loop
 slice-write-look-2 c = simp length-set (omega (arith, ring-fits c.before.before.before.before.before.before))
 
-add-k : tie.Need-overflow-add-k invariant-loop decreases-loop
+add-k : tie.Need-overflow_add-k invariant-loop decreases-loop
 add-k c = search rules
 
-loop-less : tie.Need-loop-smaller invariant-loop decreases-loop
+loop-less : tie.Need-loop-k-smaller invariant-loop decreases-loop
 loop-less c = search rules
 
-loop-again : tie.Need-loop-preserved invariant-loop decreases-loop
+loop-again : tie.Need-loop-k-preserved invariant-loop decreases-loop
 loop-again c =
     let p = c.before.before.before in
     let i = p.before.before.before in
     let l = i.before in
     let s = l.before.before in
-    let k = l.loop.k in
-    let h = i.loop-test.true in (
+    let k = l.loop-k.k in
+    let h = i.loop-k-test.true in (
       omega arith,
-      rebase-turns s.args.n (looks s) (shaped s) k h l.loop.look l.loop.invariant.1 p.sum.result c.sum2.result
-          (p.sum.ensures ∙ ap (total f0) (first-half s.args.n (looks s) (shaped s) k h l.loop.look l.loop.invariant.1))
-          (c.sum2.ensures ∙ ap (total f0) (last-half s.args.n (looks s) (shaped s) k h l.loop.look l.loop.invariant.1)),
-      simp length-set l.loop.invariant.2,
+      rebase-turns s.args.n (looks s) (shaped s) k h l.loop-k.look l.loop-k.invariant.1 p.sum-p.result c.sum-r.result
+          (p.sum-p.ensures ∙ ap (total f0) (first-half s.args.n (looks s) (shaped s) k h l.loop-k.look l.loop-k.invariant.1))
+          (c.sum-r.ensures ∙ ap (total f0) (last-half s.args.n (looks s) (shaped s) k h l.loop-k.look l.loop-k.invariant.1)),
+      simp length-set l.loop-k.invariant.2,
     )
 
-same_length : tie.Need-same-length invariant-loop decreases-loop
+same_length : tie.Need-shape_of-look invariant-loop decreases-loop
 same_length c = search rules
 
 returns : tie.Need-returns invariant-loop decreases-loop
 returns c =
     let l = c.before in
     let s = l.before.before in
-    l.loop.invariant.1
-    ∙ ap (rebased_to (looks s)) (le_antisymm l.loop.invariant.0 c.loop-test.false)
+    l.loop-k.invariant.1
+    ∙ ap (rebased_to (looks s)) (le_antisymm l.loop-k.invariant.0 c.loop-k-test.false)
     ∙ rebase-done s.args.n (looks s) (shaped s)
 
-pub rebase-look-spec : {M : Type 1} → statement M
-rebase-look-spec =
+pub rebase_look_spec : {M : Type 1} → statement M
+rebase_look_spec =
     tie.close
     (tie.spec
     invariant-loop
