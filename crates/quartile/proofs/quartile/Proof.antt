@@ -18,47 +18,47 @@ chan s = chan_of s.args.chan.now
 zeros : (s : tie.Start) → s.args.skip ≤ get_or (chan s).counts 0 0
 zeros s = omega (arith, s.requires.1, get_d_part at_counts bins s.args.chan.now 0 0 (omega arith))
 
-shared-slice-read-wide : tie.Need-shared-slice-read-wide
+shared-slice-read-wide : tie.Need-bounds-chan-571
 shared-slice-read-wide c = search rules
 
 wide-requires : tie.Need-wide-requires
 wide-requires c κs = search rules
 
-sub-left : tie.Need-overflow-sub-left
+sub-left : tie.Need-overflow_sub-left
 sub-left c =
     let s = c.before.before.before in
     omega (arith, skip-within (chan s) s.args.skip s.requires.0.1 (omega arith) (zeros s), c.wide.ensures)
 
-returns : tie.Need-returns
+returns : tie.Need-returns-then-left-eq0
 returns c =
     let w = c.before in
     let s = w.before.before.before in
-    nothing_left (chan s) s.args.skip w.wide.result w.wide.ensures c.if1.true
+    nothing_left (chan s) s.args.skip w.wide.result w.wide.ensures c.if-left-eq0.true
 
-add-ranked-bin : tie.Need-overflow-add-ranked-bin
+add-ranked-bin : tie.Need-overflow_add-left
 add-ranked-bin c = search rules
 
-add-ranked-bin-2 : tie.Need-overflow-add-ranked-bin-2
+add-ranked-bin-2 : tie.Need-overflow_add-skip
 add-ranked-bin-2 c = search rules
 
-ranked-bin-requires : tie.Need-ranked-bin-requires
+ranked-bin-requires : tie.Need-ranked_bin-requires
 ranked-bin-requires c κs = search rules
 
-bin-centre-requires : tie.Need-bin-centre-requires
+bin-centre-requires : tie.Need-bin_centre-requires
 bin-centre-requires c κs = search rules
 
-returns-2 : tie.Need-returns-2
+returns-2 : tie.Need-returns
 returns-2 c =
     let r = c.before in
     let w = r.before.before in
     let s = w.before.before.before in
-    c.bin-centre.ensures
-    ∙ ap centre_of r.ranked-bin.ensures
+    c.bin_centre.ensures
+    ∙ ap centre_of r.ranked_bin.ensures
     ∙ some_left (chan s) s.args.skip w.wide.result s.requires.0.1 (omega arith) (zeros s) w.wide.ensures
-    (omega (arith, r.before.if1.false))
+    (omega (arith, r.before.if-left-eq0.false))
 
-pub quartile-spec : {M : Type 1} → statement M
-quartile-spec =
+pub quartile_spec : {M : Type 1} → statement M
+quartile_spec =
     tie.close
     (tie.spec
     shared-slice-read-wide

@@ -13,76 +13,76 @@ use Rattle.model.proofs.ChannelRank.{Scan, scan-inside, scan-turns, scan-finds, 
 use Rattle.quartile.proofs.ranked_bin.Statement.{statement}
 use Rattle.quartile.proofs.ranked_bin.Tie as tie
 
-abbrev invariant-loop : tie.invariant-loop
+abbrev invariant-loop : tie.invariant-loop-passed
 invariant-loop chan rank passed₀ b₀ passed b = Scan (entries (chan_of chan)) rank passed b
 
-abbrev decreases-loop : tie.decreases-loop
+abbrev decreases-loop : tie.decreases-loop-passed
 decreases-loop chan rank passed₀ b₀ passed b = bins - b
 
 abbrev heard : tie.Start invariant-loop decreases-loop → List ℕ
 heard s = entries (chan_of s.args.chan.now)
 
 -- a turn is at a bin of the histogram
-inside : (c : tie.At-loop invariant-loop decreases-loop) → c.loop.b < bins
+inside : (c : tie.At-loop-passed invariant-loop decreases-loop) → c.loop-passed.b < bins
 inside c =
     let s = c.before.before.before in
-    scan-inside s.requires.0.1 c.loop.invariant s.requires.1.1
+    scan-inside s.requires.0.1 c.loop-passed.invariant s.requires.1.1
 
 -- what it reads is how often the bin occurs
-reads : (c : tie.After-wide invariant-loop decreases-loop) → c.wide.result ≡ occ c.before.before.loop.b (heard c.before.before.before.before.before)
+reads : (c : tie.After-wide-passed invariant-loop decreases-loop) → c.wide-passed.result ≡ occ c.before.before.loop-passed.b (heard c.before.before.before.before.before)
 reads c =
     let l = c.before.before in
     let s = l.before.before.before in
-    c.wide.ensures ∙ count_at s.args.chan.now l.loop.b s.requires.0.1 (inside l)
+    c.wide-passed.ensures ∙ count_at s.args.chan.now l.loop-passed.b s.requires.0.1 (inside l)
 
-reached-stretch-requires : tie.Need-reached-stretch-requires invariant-loop decreases-loop
+reached-stretch-requires : tie.Need-reached_stretch-from-requires invariant-loop decreases-loop
 reached-stretch-requires c κs = search rules
 
-loop-holds : tie.Need-loop-init invariant-loop decreases-loop
+loop-holds : tie.Need-loop-passed-init invariant-loop decreases-loop
 loop-holds c =
-    let e = c.reached-stretch.ensures in
+    let e = c.reached_stretch-from.ensures in
     record { most = omega (arith, e.0.0); sum = e.0.1; short = e.1.0 }
 
-add_wide : tie.Need-overflow-add-wide invariant-loop decreases-loop
+add_wide : tie.Need-overflow_add-b invariant-loop decreases-loop
 add_wide c = omega (arith, inside c)
 
-mul_wide : tie.Need-overflow-mul-wide invariant-loop decreases-loop
+mul_wide : tie.Need-offset_bounds-chan-b invariant-loop decreases-loop
 mul_wide c = omega (arith, inside c)
 
-shared-slice-read-wide : tie.Need-shared-slice-read-wide invariant-loop decreases-loop
+shared-slice-read-wide : tie.Need-bounds-chan-b invariant-loop decreases-loop
 shared-slice-read-wide c = omega (arith, inside c.before)
 
-wide-requires : tie.Need-wide-requires invariant-loop decreases-loop
+wide-requires : tie.Need-wide-passed-requires invariant-loop decreases-loop
 wide-requires c κs = search rules
 
-add-passed : tie.Need-overflow-add-passed invariant-loop decreases-loop
+add-passed : tie.Need-overflow_add-passed invariant-loop decreases-loop
 add-passed c =
     let l = c.before.before in
     let s = l.before.before.before in
-    omega (arith, l.loop.invariant.short, s.requires.1.1, s.requires.0.1.Filled-within, c.wide.ensures, c.before.shared-slice-known2.given (at_counts + l.loop.b))
+    omega (arith, l.loop-passed.invariant.short, s.requires.1.1, s.requires.0.1.Filled-within, c.wide-passed.ensures, c.before.shared_slice_known-in-loop-passed-1.given (at_counts + l.loop-passed.b))
 
-cast-result : tie.Need-overflow-cast-result invariant-loop decreases-loop
+cast-result : tie.Need-overflow_cast-result invariant-loop decreases-loop
 cast-result c = omega (arith, inside c.before.before.before)
 
-returns : tie.Need-returns invariant-loop decreases-loop
+returns : tie.Need-returns-then-passed-rank invariant-loop decreases-loop
 returns c =
     let w = c.before in
-    scan-finds w.wide.result w.before.before.loop.invariant (reads w) (omega (arith, c.if1.true))
+    scan-finds w.wide-passed.result w.before.before.loop-passed.invariant (reads w) (omega (arith, c.if-passed-rank.true))
 
-add-b : tie.Need-overflow-add-b invariant-loop decreases-loop
+add-b : tie.Need-overflow_add-b-in-loop-passed invariant-loop decreases-loop
 add-b c = omega (arith, inside c.before.before.before)
 
-loop-less : tie.Need-loop-smaller invariant-loop decreases-loop
+loop-less : tie.Need-loop-passed-smaller invariant-loop decreases-loop
 loop-less c = omega (arith, inside c.before.before.before)
 
-loop-again : tie.Need-loop-preserved invariant-loop decreases-loop
+loop-again : tie.Need-loop-passed-preserved invariant-loop decreases-loop
 loop-again c =
     let w = c.before in
     let l = w.before.before in
-    scan-turns w.wide.result l.loop.invariant (reads w) (inside l) (omega (arith, c.if1.false))
+    scan-turns w.wide-passed.result l.loop-passed.invariant (reads w) (inside l) (omega (arith, c.if-passed-rank.false))
 
-pub ranked-bin-spec : {M : Type 1} → statement M
-ranked-bin-spec =
+pub ranked_bin_spec : {M : Type 1} → statement M
+ranked_bin_spec =
     tie.close
     (tie.spec
     invariant-loop

@@ -11,5 +11,5 @@ returns : tie.Need-returns
 unfolding raw_floor
 returns c = c.quartile.ensures
 
-pub raw-floor-spec : {M : Type 1} → statement M
-raw-floor-spec = tie.close (tie.spec quartile-requires returns)
+pub raw_floor_spec : {M : Type 1} → statement M
+raw_floor_spec = tie.close (tie.spec quartile-requires returns)

@@ -17,10 +17,10 @@ use Rattle.quartile.specs.Scan.{stretch, entries_below}
 use Rattle.quartile.proofs.stretch_sum.Statement.{statement}
 use Rattle.quartile.proofs.stretch_sum.Tie as tie
 
-abbrev invariant-loop : tie.invariant-loop
+abbrev invariant-loop : tie.invariant-loop-i
 invariant-loop chan b first sum₀ i₀ sum i = (i ≤ stretch) × (entries_below b (chan_of chan) + sum ≡ entries_below (b + i) (chan_of chan))
 
-abbrev decreases-loop : tie.decreases-loop
+abbrev decreases-loop : tie.decreases-loop-i
 decreases-loop chan b first sum₀ i₀ sum i = stretch - i
 
 -- one bin more
@@ -32,58 +32,58 @@ bin-more l b i s h =
     omega (arith, ap (λ (k : ℕ). get_or l k 0) at ∙ count_at l (b + i) s h, under_more (b + i) (entries (chan_of l)), ap (λ (k : ℕ). entries_below k (chan_of l)) next)
 
 -- the same of a turn, with the sum so far
-turned : (c : tie.After-shared-slice-known invariant-loop decreases-loop)
+turned : (c : tie.After-shared_slice_known-1 invariant-loop decreases-loop)
     → (let l = c.before.before in
     let a = l.before.args in
-    entries_below a.b (chan_of a.chan.now) + (l.loop.sum + get_or a.chan.now (at_counts + a.b + l.loop.i) 0) ≡ entries_below (a.b + (l.loop.i + 1)) (chan_of a.chan.now))
+    entries_below a.b (chan_of a.chan.now) + (l.loop-i.sum + get_or a.chan.now (at_counts + a.b + l.loop-i.i) 0) ≡ entries_below (a.b + (l.loop-i.i + 1)) (chan_of a.chan.now))
 turned c =
     let l = c.before.before in
     let s = l.before in
-    omega (arith, l.loop.invariant.1, bin-more s.args.chan.now s.args.b l.loop.i s.requires.0.1 (omega (arith, s.requires.1)))
+    omega (arith, l.loop-i.invariant.1, bin-more s.args.chan.now s.args.b l.loop-i.i s.requires.0.1 (omega (arith, s.requires.1)))
 
-add-first : tie.Need-overflow-add-first invariant-loop decreases-loop
+add-first : tie.Need-overflow_add-first invariant-loop decreases-loop
 add-first c = omega (arith, c.requires.1)
 
-loop-holds : tie.Need-loop-init invariant-loop decreases-loop
+loop-holds : tie.Need-loop-i-init invariant-loop decreases-loop
 loop-holds c =
     let k = chan_of c.args.chan.now in
     let e : c.args.b + 0 ≡ c.args.b = omega arith in
     (omega arith, omega (arith, ap (λ (x : ℕ). entries_below x k) e))
 
-add-sum : tie.Need-overflow-add-sum invariant-loop decreases-loop
+add-sum : tie.Need-overflow_add-sum invariant-loop decreases-loop
 add-sum c = omega (arith, c.before.before.requires.1)
 
-mul-sum : tie.Need-overflow-mul-sum invariant-loop decreases-loop
+mul-sum : tie.Need-offset_bounds-chan-first invariant-loop decreases-loop
 mul-sum c = omega (arith, c.before.before.requires.1)
 
-shared-slice-read-sum : tie.Need-shared-slice-read-sum invariant-loop decreases-loop
+shared-slice-read-sum : tie.Need-bounds-chan-first invariant-loop decreases-loop
 shared-slice-read-sum c = omega (arith, c.before.before.before.requires.1)
 
-add-sum-2 : tie.Need-overflow-add-sum-2 invariant-loop decreases-loop
+add-sum-2 : tie.Need-overflow_add-sum-in-loop-i invariant-loop decreases-loop
 add-sum-2 c =
     let l = c.before.before in
     let s = l.before in
     let k = chan_of s.args.chan.now in
-    omega (arith, turned c, count-le (λ (x : ℕ). ltb x (s.args.b + (l.loop.i + 1))) (entries k), length-entries k s.requires.0.1, s.requires.0.1.Filled-within)
+    omega (arith, turned c, count-le (λ (x : ℕ). ltb x (s.args.b + (l.loop-i.i + 1))) (entries k), length-entries k s.requires.0.1, s.requires.0.1.Filled-within)
 
-add-i : tie.Need-overflow-add-i invariant-loop decreases-loop
+add-i : tie.Need-overflow_add-i invariant-loop decreases-loop
 add-i c = omega arith
 
-loop-less : tie.Need-loop-smaller invariant-loop decreases-loop
+loop-less : tie.Need-loop-i-smaller invariant-loop decreases-loop
 loop-less c = omega arith
 
-loop-again : tie.Need-loop-preserved invariant-loop decreases-loop
+loop-again : tie.Need-loop-i-preserved invariant-loop decreases-loop
 loop-again c = (omega arith, turned c)
 
 returns : tie.Need-returns invariant-loop decreases-loop
 returns c =
     let l = c.before in
     let a = l.before.args in
-    let e : a.b + l.loop.i ≡ a.b + stretch = omega (arith, l.loop.invariant.0) in
-    l.loop.invariant.1 ∙ ap (λ (x : ℕ). entries_below x (chan_of a.chan.now)) e
+    let e : a.b + l.loop-i.i ≡ a.b + stretch = omega (arith, l.loop-i.invariant.0) in
+    l.loop-i.invariant.1 ∙ ap (λ (x : ℕ). entries_below x (chan_of a.chan.now)) e
 
-pub stretch-sum-spec : {M : Type 1} → statement M
-stretch-sum-spec =
+pub stretch_sum_spec : {M : Type 1} → statement M
+stretch_sum_spec =
     tie.close
     (tie.spec
     invariant-loop
