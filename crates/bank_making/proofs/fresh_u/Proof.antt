@@ -7,10 +7,10 @@ use Rattle.bank_making.proofs.fresh_u.Tie as tie
 zero-requires : tie.Need-zero-requires
 zero-requires c κs = search rules
 
-slice-write-bank : tie.Need-slice-write-bank
+slice-write-bank : tie.Need-bounds-bank-0
 slice-write-bank c = search rules
 
-same_length : tie.Need-same-length
+same_length : tie.Need-shape_of-bank
 same_length c = search rules
 
 returns : tie.Need-returns
@@ -18,5 +18,5 @@ returns c = let z = c.before.before in
     let s = z.before.before.before in
     fresh-u s.args.n z.zero.new.0 (z.zero.ensures ∙ ap noughts s.requires)
 
-pub fresh-u-spec : {M : Type 1} → statement M
-fresh-u-spec = tie.close (tie.spec zero-requires slice-write-bank same_length returns)
+pub fresh_u_spec : {M : Type 1} → statement M
+fresh_u_spec = tie.close (tie.spec zero-requires slice-write-bank same_length returns)

@@ -10,43 +10,43 @@ use Rattle.bank_making.proofs.Makes.{fill-all}
 use Rattle.bank_making.proofs.zero.Statement.{statement}
 use Rattle.bank_making.proofs.zero.Tie as tie
 
-abbrev invariant-loop : tie.invariant-loop
+abbrev invariant-loop : tie.invariant-loop-k
 invariant-loop s₀ k₀ s k = (k ≤ length s₀) × (s ≡ splice 0 k s₀ (replicate k 0)) × (length s ≡ length s₀)
 
-abbrev decreases-loop : tie.decreases-loop
+abbrev decreases-loop : tie.decreases-loop-k
 decreases-loop s₀ k₀ s k = length s₀ - k
 
-loop-holds : tie.Need-loop-init invariant-loop decreases-loop
+loop-holds : tie.Need-loop-k-init invariant-loop decreases-loop
 loop-holds c = (omega arith, refl, refl)
 
-mul-s : tie.Need-overflow-mul-s invariant-loop decreases-loop
+mul-s : tie.Need-offset_bounds-s-k invariant-loop decreases-loop
 mul-s c = search rules
 
-slice-write-s : tie.Need-slice-write-s invariant-loop decreases-loop
+slice-write-s : tie.Need-bounds-s-k invariant-loop decreases-loop
 slice-write-s c = search rules
 
-add-k : tie.Need-overflow-add-k invariant-loop decreases-loop
+add-k : tie.Need-overflow_add-k invariant-loop decreases-loop
 add-k c = search rules
 
-loop-less : tie.Need-loop-smaller invariant-loop decreases-loop
+loop-less : tie.Need-loop-k-smaller invariant-loop decreases-loop
 loop-less c = search rules
 
-loop-again : tie.Need-loop-preserved invariant-loop decreases-loop
+loop-again : tie.Need-loop-k-preserved invariant-loop decreases-loop
 loop-again c = let l = c.before in
     let s = l.before.args.s.now in
-    (omega arith, ap (λ (t : List ℕ). set t l.loop.k 0) l.loop.invariant.1 ∙ fill_more l.loop.k 0 s (omega arith), simp length-set l.loop.invariant.2)
+    (omega arith, ap (λ (t : List ℕ). set t l.loop-k.k 0) l.loop-k.invariant.1 ∙ fill_more l.loop-k.k 0 s (omega arith), simp length-set l.loop-k.invariant.2)
 
-same_length : tie.Need-same-length invariant-loop decreases-loop
+same_length : tie.Need-shape_of-s invariant-loop decreases-loop
 same_length c = search rules
 
 returns : tie.Need-returns invariant-loop decreases-loop
 returns c = let l = c.before in
     let s = l.before.args.s.now in
-    let e : l.loop.k ≡ length s = omega arith in
-    l.loop.invariant.1 ∙ ap (λ (k : ℕ). splice 0 k s (replicate k 0)) e ∙ fill-all s 0
+    let e : l.loop-k.k ≡ length s = omega arith in
+    l.loop-k.invariant.1 ∙ ap (λ (k : ℕ). splice 0 k s (replicate k 0)) e ∙ fill-all s 0
 
-pub zero-spec : {M : Type 1} → statement M
-zero-spec =
+pub zero_spec : {M : Type 1} → statement M
+zero_spec =
     tie.close
     (tie.spec
     invariant-loop
