@@ -1,4 +1,6 @@
 // Document 01, "Block and bank step": what it does with numbers and with one list.
+#![tactic(auto)]
+
 pub mod seeds;
 
 ghost use Rattle.std.specs.Prelude.{◌≡◌, ◌&&◌, ltb};
