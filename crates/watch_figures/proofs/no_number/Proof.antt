@@ -7,5 +7,5 @@ returns : tie.Need-returns
 unfolding div of_bits
 returns c = refl
 
-pub no-number-spec : {M : Type 1} → statement M
-no-number-spec = tie.close (tie.spec returns)
+pub no_number_spec : {M : Type 1} → statement M
+no_number_spec = tie.close (tie.spec returns)
