@@ -1,4 +1,6 @@
 // The figures of a report that are neither a reading nor a count.
+#![tactic(auto)]
+
 ghost use Rattle.std.specs.Prelude.{◌≡◌, ◌<◌, slice_index_or};
 ghost use Rattle.std.specs.Float.{nan};
 ghost use Rattle.laws.specs.Lists.{one};
