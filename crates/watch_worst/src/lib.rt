@@ -1,4 +1,6 @@
 // The worst floor of late of a channel (document 02, R-6) as text.
+#![tactic(auto)]
+
 ghost use Rattle.std.specs.Prelude.{◌≡◌};
 ghost use Rattle.watch_text.specs.Text.{put_all, right};
 ghost use Rattle.watch_worst.specs.Told.{worst_text};
