@@ -5,17 +5,17 @@ use borrow.Author.Rules.{rules}
 use Rattle.watch_log.proofs.power_at.Statement.{statement}
 use Rattle.watch_log.proofs.power_at.Tie as tie
 
-mul-result : tie.Need-overflow-mul-result
+mul-result : tie.Need-offset_bounds-bits-k
 mul-result c = search rules
 
-shared-slice-read-result : tie.Need-shared-slice-read-result
+shared-slice-read-result : tie.Need-bounds-bits-k
 shared-slice-read-result c = search rules
 
-returns : tie.Need-returns
+returns : tie.Need-returns-then-k-bits
 returns c = search rules
 
-returns-2 : tie.Need-returns-2
-returns-2 c = sym (get_or-eq_default c.before.args.bits.now 0 c.if1.false)
+returns-2 : tie.Need-returns
+returns-2 c = sym (get_or-eq_default c.before.args.bits.now 0 c.if-k-bits.false)
 
-pub power-at-spec : {M : Type 1} → statement M
-power-at-spec = tie.close (tie.spec mul-result shared-slice-read-result returns returns-2)
+pub power_at_spec : {M : Type 1} → statement M
+power_at_spec = tie.close (tie.spec mul-result shared-slice-read-result returns returns-2)

@@ -18,36 +18,36 @@ logged : (x : LogRead × List ℕ × List ℕ) (a : LogRead) (d p : List ℕ) (s
 unfolding logged_of
 logged x a d p s db power got n m e st fd fp = (λ i. (st i, d, p, fd i, fp i)) ∙ ap (λ (y : LogRead × List ℕ × List ℕ). logged_of y got n m) e
 
-log-read-requires : tie.Need-log-read-requires
+log-read-requires : tie.Need-log_read-answer-requires
 log-read-requires c κs = search rules
 
-fill-db-requires : tie.Need-fill-db-requires
+fill-db-requires : tie.Need-fill_db-requires
 fill-db-requires c κs = search rules
 
-fill-power-requires : tie.Need-fill-power-requires
+fill-power-requires : tie.Need-fill_power-requires
 fill-power-requires c κs = search rules
 
-step-by-requires : tie.Need-step-by-requires
+step-by-requires : tie.Need-step_by-requires
 step-by-requires c κs = search rules
 
-same_length : tie.Need-same-length
+same_length : tie.Need-shape_of-bits
 same_length c = search rules
 
-same-length-2 : tie.Need-same-length-2
+same-length-2 : tie.Need-shape_of-powers
 same-length-2 c = search rules
 
-same-length-3 : tie.Need-same-length-3
+same-length-3 : tie.Need-shape_of-db
 same-length-3 c = search rules
 
-same-length-4 : tie.Need-same-length-4
+same-length-4 : tie.Need-shape_of-power
 same-length-4 c = search rules
 
 returns : tie.Need-returns
 returns c =
-    logged _ _ _ _ _ _ _ _ _ _ c.before.before.before.before.before.before.before.before.before.before.before.before.before.before.before.log_read.ensures c.step_by.ensures c.before.before.before.before.before.before.before.before.fill-db.ensures c.before.before.before.fill-power.ensures
+    logged _ _ _ _ _ _ _ _ _ _ c.before.before.before.before.before.before.before.before.before.before.before.before.before.before.before.log_read-answer.ensures c.step_by.ensures c.before.before.before.before.before.before.before.before.fill_db.ensures c.before.before.before.fill_power.ensures
 
-pub take-hop-spec : {M : Type 1} → statement M
-take-hop-spec =
+pub take_hop_spec : {M : Type 1} → statement M
+take_hop_spec =
     tie.close
     (tie.spec
     log-read-requires
