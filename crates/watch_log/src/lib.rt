@@ -1,4 +1,6 @@
 // The next hop of a log. A hop is read into a log of its own, behind the header: the log's reader needs no more of it, so a log may be of any length.
+#![tactic(auto)]
+
 ghost use Rattle.std.specs.Prelude.{◌≡◌, ◌+◌, ◌≤◌, length, get_or};
 ghost use Rattle.std.specs.Float.Ieee.{of_bits};
 ghost use Rattle.std.specs.Float.{binary32, binary64};

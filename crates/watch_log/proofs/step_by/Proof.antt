@@ -18,13 +18,13 @@ refused-requires : tie.Need-refused-requires
 refused-requires c κs = search rules
 
 returns : tie.Need-returns-in-Next
-returns c = ap (λ a. step_by a c.before.before.args.got) (sym c.enum_told-1.given.1)
+returns c = ap (λ a. step_by a c.before.args.got) (sym c.in-Next.is)
 
 returns-2 : tie.Need-returns-in-End
 returns-2 c = search rules
 
 returns-3 : tie.Need-returns-in-Refused
-returns-3 c = c.refused.ensures ∙ ap (λ a. step_by a c.before.before.before.before.args.got) (sym c.before.before.answer-1.given.1)
+returns-3 c = c.refused.ensures ∙ ap (λ a. step_by a c.before.before.args.got) (sym c.before.in-Refused.is)
 
 pub step_by_spec : {M : Type 1} → statement M
 step_by_spec =

@@ -44,7 +44,7 @@ same-length-4 c = search rules
 
 returns : tie.Need-returns
 returns c =
-    logged _ _ _ _ _ _ _ _ _ _ c.before.before.before.before.before.before.before.before.before.before.before.before.before.before.before.log_read-answer.ensures c.step_by.ensures c.before.before.before.before.before.before.before.before.fill_db.ensures c.before.before.before.fill_power.ensures
+    logged _ _ _ _ _ _ _ _ _ _ c.before.before.before.before.before.before.before.before.before.before.before.before.before.log_read-answer.ensures c.step_by.ensures c.before.before.before.before.before.before.before.fill_db.ensures c.before.before.before.fill_power.ensures
 
 pub take_hop_spec : {M : Type 1} → statement M
 take_hop_spec =
