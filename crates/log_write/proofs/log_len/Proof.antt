@@ -14,35 +14,35 @@ maps m = let a = m.before.before.before.args in ap (λ (w : ℕ). w * (length a.
 width-requires : tie.Need-width-requires
 width-requires c κs = search rules
 
-div-maps : tie.Need-nonzero-div-maps
+div-maps : tie.Need-nonzero_div-maps
 div-maps c = search rules
 
-mul-maps : tie.Need-overflow-mul-maps
+mul-maps : tie.Need-overflow_mul-maps
 mul-maps c =
     let a = c.before.before.before.args in
     omega (arith, maps c, maps-fit a.n (length a.db.now) (omega arith), c.before.before.before.well-formed.1.0)
 
-add-result : tie.Need-overflow-add-result
+add-result : tie.Need-overflow_add-result
 add-result c =
     let a = c.before.before.before.args in
     omega (arith, maps c, maps-fit a.n (length a.db.now) (omega arith), c.before.before.before.well-formed.1.0)
 
-count-changed-requires : tie.Need-count-changed-requires
+count-changed-requires : tie.Need-count_changed-requires
 count-changed-requires c κs = search rules
 
-mul-result : tie.Need-overflow-mul-result
+mul-result : tie.Need-overflow_mul-result
 mul-result c = search rules
 
-add-result-2 : tie.Need-overflow-add-result-2
+add-result-2 : tie.Need-overflow_add-result-2
 add-result-2 c =
     let a = c.before.before.before.before.args in
     omega (arith, maps c.before, maps-fit a.n (length a.db.now) (omega arith), c.before.before.before.before.well-formed.1.0)
 
 returns : tie.Need-returns
-returns c = omega (arith, maps c.before, c.count-changed.ensures.0)
+returns c = omega (arith, maps c.before, c.count_changed.ensures.0)
 
-pub log-len-spec : {M : Type 1} → statement M
-log-len-spec =
+pub log_len_spec : {M : Type 1} → statement M
+log_len_spec =
     tie.close
     (tie.spec
     width-requires
