@@ -1,4 +1,6 @@
 // Document 02, R-1: the writer of a hop log. The log is measured first; where it does not fit, nothing is written.
+#![tactic(auto)]
+
 ghost use Rattle.std.specs.Prelude.{◌≡◌, ◌+◌, ◌*◌, ◌/◌, ◌%◌, ◌≤◌, length};
 ghost use Rattle.laws.specs.Bits.{width};
 ghost use Rattle.laws.specs.Tests.{tally};

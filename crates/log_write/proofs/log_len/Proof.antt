@@ -20,12 +20,12 @@ div-maps c = search rules
 mul-maps : tie.Need-overflow_mul-maps
 mul-maps c =
     let a = c.before.before.before.args in
-    omega (arith, maps c, maps-fit a.n (length a.db.now) (omega arith), c.before.before.before.well-formed.1.0)
+    omega (arith, maps c, maps-fit a.n (length a.db.now) (omega arith), c.before.before.before.well_formed.1.0)
 
 add-result : tie.Need-overflow_add-result
 add-result c =
     let a = c.before.before.before.args in
-    omega (arith, maps c, maps-fit a.n (length a.db.now) (omega arith), c.before.before.before.well-formed.1.0)
+    omega (arith, maps c, maps-fit a.n (length a.db.now) (omega arith), c.before.before.before.well_formed.1.0)
 
 count-changed-requires : tie.Need-count_changed-requires
 count-changed-requires c κs = search rules
@@ -36,7 +36,7 @@ mul-result c = search rules
 add-result-2 : tie.Need-overflow_add-result-2
 add-result-2 c =
     let a = c.before.before.before.before.args in
-    omega (arith, maps c.before, maps-fit a.n (length a.db.now) (omega arith), c.before.before.before.before.well-formed.1.0)
+    omega (arith, maps c.before, maps-fit a.n (length a.db.now) (omega arith), c.before.before.before.before.well_formed.1.0)
 
 returns : tie.Need-returns
 returns c = omega (arith, maps c.before, c.count_changed.ensures.0)

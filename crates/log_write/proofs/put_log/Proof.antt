@@ -43,9 +43,9 @@ put-hop-requires c κs =
     let l = c.before.before in
     let s = l.before.before.before.before.before.before.before.before in
     let a = s.args in
-    let e = l.before.before.before.put_low.auto.0 in (
+    let e = l.before.before.before.put_low.auto.log in (
       (hop-within a.n (length a.db.now) l.loop-j.j (omega arith) (omega arith), (s.requires.0.1.1.0, s.requires.0.1.0)),
-      omega (arith, e, hop-fits a.n a.db.now a.power.now l.loop-j.j (length a.log-1.now) s.requires.1 (omega arith)),
+      omega (arith, e, hop-fits a.n a.db.now a.power.now l.loop-j.j (length a.log.now) s.requires.1 (omega arith)),
     )
 
 add-j : tie.Need-overflow_step-j invariant-loop decreases-loop
@@ -67,7 +67,7 @@ loop-again c =
     let j : ℕ = l.loop-j.j in
     let H : ℕ → List ℕ = hop_at a.n a.db.now a.power.now in
     let q = c.before.before.put_hop-at in
-    let fits = hop-fits a.n a.db.now a.power.now j (length a.log-1.now) s.requires.1 (omega arith) in
+    let fits = hop-fits a.n a.db.now a.power.now j (length a.log.now) s.requires.1 (omega arith) in
     let wide = length_at a.n a.db.now a.power.now j in
     let more = joined-next j H in (
       l.loop-j.invariant.0,
@@ -76,9 +76,9 @@ loop-again c =
         (
           omega (arith, q.ensures.0, wide, ap length more, length-append (joined (tab j H)) (H j)),
           (
-            q.auto.1.1.1.1.0 ∙ l.loop-j.invariant.1.1.1.0,
-            q.ensures.1 ∙ put_next 2 l.loop-j.at (length (joined (tab j H))) (joined (tab j H)) (H j) p.put_low.new.0 l.loop-j.log-1 refl l.loop-j.invariant.1.1.0 l.loop-j.invariant.1.1.1.1 (omega (arith, wide, fits, p.put_low.auto.0))
-                ∙ ap (λ (r : List ℕ). put 2 r p.put_low.new.0) (sym more),
+            q.auto.log ∙ l.loop-j.invariant.1.1.1.0,
+            q.ensures.1 ∙ put_next 2 l.loop-j.at (length (joined (tab j H))) (joined (tab j H)) (H j) p.put_low.new.log l.loop-j.log refl l.loop-j.invariant.1.1.0 l.loop-j.invariant.1.1.1.1 (omega (arith, wide, fits, p.put_low.auto.log))
+                ∙ ap (λ (r : List ℕ). put 2 r p.put_low.new.log) (sym more),
           ),
         ),
       ),
@@ -97,8 +97,8 @@ returns c =
     let H : ℕ → List ℕ = hop_at a.n a.db.now a.power.now in
     let e : l.loop-j.j ≡ length a.db.now / a.n = omega arith in (
       l.loop-j.invariant.1.1.0 ∙ ap (λ (i : ℕ). 2 + length (joined (tab i H))) e ∙ sym (log-parts a.n a.db.now a.power.now),
-      l.loop-j.invariant.1.1.1.1 ∙ ap (λ (i : ℕ). put 2 (joined (tab i H)) p.put_low.new.0) e
-          ∙ put_next 0 2 2 (low_bytes 2 a.n) (joined (tab (length a.db.now / a.n) H)) a.log-1.now p.put_low.new.0 (length-low 2 a.n) refl p.put_low.ensures (omega (arith, log-parts a.n a.db.now a.power.now, s.requires.1)),
+      l.loop-j.invariant.1.1.1.1 ∙ ap (λ (i : ℕ). put 2 (joined (tab i H)) p.put_low.new.log) e
+          ∙ put_next 0 2 2 (low_bytes 2 a.n) (joined (tab (length a.db.now / a.n) H)) a.log.now p.put_low.new.log (length-low 2 a.n) refl p.put_low.ensures (omega (arith, log-parts a.n a.db.now a.power.now, s.requires.1)),
     )
 
 pub put_log_spec : {M : Type 1} → statement M
