@@ -1,4 +1,6 @@
 // A fresh bank: floors at the bottom, smoothed the literal FRESH_POWER, the rest 0.
+#![tactic(auto)]
+
 ghost use Rattle.std.specs.Prelude.{◌≡◌, ◌+◌, ◌≤◌, length, replicate};
 ghost use Rattle.laws.specs.Lists.{splice};
 ghost use Rattle.model.specs.Bank.{fresh_bank};

@@ -1,4 +1,6 @@
 // Document 01, "Ring and quartile": a channel's floors, the lower quartile of its ring by nearest rank.
+#![tactic(auto)]
+
 ghost use Rattle.std.specs.Prelude.{◌≡◌, ◌+◌, ◌≤◌, ◌<◌, length, get_or};
 ghost use Rattle.model.specs.Layout.{bins, ring_len, at_counts, at_filled, channel_len};
 ghost use Rattle.model.specs.Ring.{entries, smallest, quartile, raw_floor, usable_floor};

@@ -13,9 +13,9 @@ use Rattle.bank_making.proofs.bank_new.Tie as tie
 abbrev start : tie.Else-no-ne0 → tie.Start
 start e = e.before.before.before.before
 
-sized : (e : tie.Else-no-ne0) → Fits (length (start e).args.bank_1.now) (length (start e).args.bank_f_1.now) (start e).args.n
+sized : (e : tie.Else-no-ne0) → Fits (length (start e).args.bank.now) (length (start e).args.bank_f.now) (start e).args.n
 sized e = let s = start e in
-    fit 1 (length s.args.bank_1.now) (length s.args.bank_f_1.now) s.args.n (omega arith) (sym e.before.size_refusal-no.ensures ∙ e.if-no-ne0.false)
+    fit 1 (length s.args.bank.now) (length s.args.bank_f.now) s.args.n (omega arith) (sym e.before.size_refusal-no.ensures ∙ e.if-no-ne0.false)
 
 size-refusal-requires : tie.Need-size_refusal-no-requires
 size-refusal-requires c κs = search rules
@@ -23,7 +23,7 @@ size-refusal-requires c κs = search rules
 returns : tie.Need-returns-then-no-ne0
 returns c = let z = c.before in
     let s = z.before.before.before in
-    new-refused s.args.bank_1.now s.args.bank_f_1.now s.args.n _ z.size_refusal-no.ensures c.if-no-ne0.true
+    new-refused s.args.bank.now s.args.bank_f.now s.args.n _ z.size_refusal-no.ensures c.if-no-ne0.true
 
 cast-fresh-u : tie.Need-overflow_cast-n
 cast-fresh-u c = omega (arith, (sized c.before).high)
@@ -47,7 +47,7 @@ returns-2 c = let f = c.before.before in
     let e = u.before.before in
     let s = start e in
     ap₂ (λ (x : List ℕ) (y : List Float). (0, x, y)) u.fresh_u.ensures f.fresh_f.ensures
-    ∙ new-made s.args.bank_1.now s.args.bank_f_1.now s.args.n (sym e.if-no-ne0.false ∙ e.before.size_refusal-no.ensures)
+    ∙ new-made s.args.bank.now s.args.bank_f.now s.args.n (sym e.if-no-ne0.false ∙ e.before.size_refusal-no.ensures)
 
 pub bank_new_spec : {M : Type 1} → statement M
 bank_new_spec =

@@ -39,7 +39,7 @@ returns c = let f₃ = c.before.before in
     let f₁ = f₂.before.before.before.before in
     let b = f₁.before.before in
     let s = b.before.before in
-    fresh-f-store s.args.n b.blocks-b.result s.args.bank_f_1.now _ _ _ s.requires.1 b.blocks-b.ensures.0 f₁.fill.ensures f₂.fill-2.ensures f₃.fill-3.ensures
+    fresh-f-store s.args.n b.blocks-b.result s.args.bank_f.now _ _ _ s.requires.1 b.blocks-b.ensures.0 f₁.fill.ensures f₂.fill-2.ensures f₃.fill-3.ensures
 
 pub fresh_f_spec : {M : Type 1} → statement M
 fresh_f_spec =

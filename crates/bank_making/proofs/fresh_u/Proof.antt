@@ -16,7 +16,7 @@ same_length c = search rules
 returns : tie.Need-returns
 returns c = let z = c.before.before in
     let s = z.before.before.before in
-    fresh-u s.args.n z.zero.new.0 (z.zero.ensures ∙ ap noughts s.requires)
+    fresh-u s.args.n z.zero.new.s (z.zero.ensures ∙ ap noughts s.requires)
 
 pub fresh_u_spec : {M : Type 1} → statement M
 fresh_u_spec = tie.close (tie.spec zero-requires slice-write-bank same_length returns)

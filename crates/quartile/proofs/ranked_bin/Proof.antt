@@ -59,7 +59,7 @@ add-passed : tie.Need-overflow_add-passed invariant-loop decreases-loop
 add-passed c =
     let l = c.before.before in
     let s = l.before.before.before in
-    omega (arith, l.loop-passed.invariant.short, s.requires.1.1, s.requires.0.1.Filled-within, c.wide-passed.ensures, c.before.shared_slice_known-in-loop-passed-1.given (at_counts + l.loop-passed.b))
+    omega (arith, l.loop-passed.invariant.short, s.requires.1.1, s.requires.0.1.filled_within, c.wide-passed.ensures, c.before.shared_slice_known-in-loop-passed-1.given (at_counts + l.loop-passed.b))
 
 cast-result : tie.Need-overflow_cast-result invariant-loop decreases-loop
 cast-result c = omega (arith, inside c.before.before.before)

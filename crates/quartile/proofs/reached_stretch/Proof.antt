@@ -48,7 +48,7 @@ add-with-next c =
     let l = c.before.before in
     let s = l.before.before in
     let k = chan_of s.args.chan.now in
-    omega (arith, summed c, count-le (λ (x : ℕ). ltb x (l.loop-rank.b + stretch)) (entries k), length-entries k s.requires.0.1, s.requires.0.1.Filled-within)
+    omega (arith, summed c, count-le (λ (x : ℕ). ltb x (l.loop-rank.b + stretch)) (entries k), length-entries k s.requires.0.1, s.requires.0.1.filled_within)
 
 returns : tie.Need-returns-then-with_next-rank invariant-loop decreases-loop
 returns c =

@@ -64,7 +64,7 @@ add-sum-2 c =
     let l = c.before.before in
     let s = l.before in
     let k = chan_of s.args.chan.now in
-    omega (arith, turned c, count-le (λ (x : ℕ). ltb x (s.args.b + (l.loop-i.i + 1))) (entries k), length-entries k s.requires.0.1, s.requires.0.1.Filled-within)
+    omega (arith, turned c, count-le (λ (x : ℕ). ltb x (s.args.b + (l.loop-i.i + 1))) (entries k), length-entries k s.requires.0.1, s.requires.0.1.filled_within)
 
 add-i : tie.Need-overflow_add-i invariant-loop decreases-loop
 add-i c = omega arith
