@@ -13,7 +13,7 @@ use Rattle.model.specs.Stores.{bank_of}
 use Rattle.model.specs.Gate.{Gate, db_after, gate_step, refresh, update_step, hold_at, hold_step}
 use Rattle.model.specs.GoodGate.{GoodGate}
 use Rattle.model.specs.GateCalls.{gate_update_refusal, hold_refusal, gate_leaves, gate_update_call, gate_hold_call}
-use Rattle.model.specs.Demand3.{Stores, bank, gate, hold, does, step, left, bank_in}
+use Rattle.model.specs.Demand3.{Stores, gate, hold, does, step, left, bank_in}
 use Rattle.model.specs.Sets.{gate_in}
 use Rattle.model.proofs.GoodGates.{gate-ready}
 use Rattle.model.proofs.Calls.{gate_after, leaves-gate, leaves-hold}
