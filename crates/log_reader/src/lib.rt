@@ -1,5 +1,7 @@
 // Document 02, R-1: the reader as a record over the log's bytes and its position. Each function takes it apart and calls the reader on
 // a plain slice and a position; whoever wants no record calls that one.
+#![tactic(auto)]
+
 ghost use Rattle.std.specs.Prelude.{◌≡◌};
 ghost use Rattle.log_model.specs.Answers.{place_after};
 ghost use Rattle.log_model.specs.Read.{read_hop};
@@ -7,7 +9,7 @@ ghost use Rattle.log_reader.specs.Reader.{advanced};
 
 use log_model::LogRead;
 
-#[derive(Drop)]
+#[derive(Clone, Copy)]
 pub struct LogReader<'a> {
     pub log: &'a [u8],
     pub at: usize,
