@@ -1,4 +1,6 @@
 // Document 02, R-8: of two antennas' pairs the one with the larger power.
+#![tactic(auto)]
+
 ghost use Rattle.std.specs.Prelude.{◌≡◌, cond, ◌+◌, ◌≤◌, length};
 ghost use Rattle.laws.specs.Lists.{tab};
 ghost use Rattle.log_hops.specs.Put.{put};
