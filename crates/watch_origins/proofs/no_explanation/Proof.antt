@@ -8,5 +8,5 @@ returns : tie.Need-returns
 unfolding div of_bits
 returns c = refl
 
-pub no-explanation-spec : {M : Type 1} → statement M
-no-explanation-spec = tie.close (tie.spec returns)
+pub no_explanation_spec : {M : Type 1} → statement M
+no_explanation_spec = tie.close (tie.spec returns)
