@@ -1,4 +1,6 @@
 // Where floors come from (document 02, R-4), in words, and when that is worth a line.
+#![tactic(auto)]
+
 ghost use Rattle.std.specs.Prelude.{◌≡◌};
 ghost use Rattle.watch_text.specs.Text.{put_all, right};
 ghost use Rattle.watch_origins.specs.Told.{effective_name, rise_name, no_explanation, is_news, jumps as told_jumps};
