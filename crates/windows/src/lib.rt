@@ -1,4 +1,6 @@
 // Document 01, "Windows, ladder, gate": the windows of one length, over its part of the gate's f64 store.
+#![tactic(auto)]
+
 ghost use Rattle.std.specs.Prelude.{◌≡◌, length};
 ghost use Rattle.model.specs.Numbers.{f0};
 ghost use Rattle.model.specs.Windows.{push_look, rebase_look, total};

@@ -34,9 +34,7 @@ ring-fits : (i : tie.In-loop-k invariant-loop decreases-loop)
     let s = l.before.before in
     2 * s.args.c.m * l.loop-k.k + 2 * s.args.c.m ≤ 2 * s.args.c.m * s.args.n)
 ring-fits i =
-    let l = i.before in
-    let s = l.before.before in
-    row (2 * s.args.c.m) l.loop-k.k s.args.n i.loop-k-test.true
+    row (2 * i.args.c.m) i.loop-k.k i.args.n i.loop-k-test.true
 
 mul-recent : tie.Need-overflow_mul-recent invariant-loop decreases-loop
 mul-recent c = search rules
@@ -48,12 +46,11 @@ add-previous : tie.Need-overflow_add-previous invariant-loop decreases-loop
 add-previous c = search rules
 
 loop-holds : tie.Need-loop-k-init invariant-loop decreases-loop
-loop-holds c =
-    let s = c.before in (
-      omega arith,
-      sym (look-forth s.args.n s.args.c.m s.args.c.at s.args.c.filled s.args.look.now s.requires.long),
-      refl,
-    )
+loop-holds c = (
+  omega arith,
+  sym (look-forth c.args.n c.args.c.m c.args.c.at c.args.c.filled c.args.look.now c.requires.long),
+  refl,
+)
 
 mul-start : tie.Need-overflow_mul-start invariant-loop decreases-loop
 mul-start c = search rules
@@ -77,13 +74,13 @@ part-sum-start : tie.Need-slice_bounds-sum-start invariant-loop decreases-loop
 part-sum-start c = search rules
 
 part-sum-end : tie.Need-slice_bounds-sum-end invariant-loop decreases-loop
-part-sum-end c = omega (arith, ring-fits c.before)
+part-sum-end c = omega (arith, ring-fits c)
 
 sum-requires : tie.Need-sum-p-requires invariant-loop decreases-loop
 sum-requires c κs = search rules
 
 mul-sum-2 : tie.Need-offset_bounds-look-middle invariant-loop decreases-loop
-mul-sum-2 c = omega (arith, ring-fits c.before.before.before)
+mul-sum-2 c = omega (arith, ring-fits c.before.before)
 
 sub-sum-2 : tie.Need-slice_bounds-sum-count-in-loop-k invariant-loop decreases-loop
 sub-sum-2 c = search rules
@@ -92,7 +89,7 @@ part-sum-start-2 : tie.Need-slice_bounds-sum-start-in-loop-k invariant-loop decr
 part-sum-start-2 c = search rules
 
 part-sum-end-2 : tie.Need-slice_bounds-sum-end-in-loop-k invariant-loop decreases-loop
-part-sum-end-2 c = omega (arith, ring-fits c.before.before.before.before)
+part-sum-end-2 c = omega (arith, ring-fits c.before.before)
 
 sum-requires-2 : tie.Need-sum-r-requires invariant-loop decreases-loop
 sum-requires-2 c κs = search rules
@@ -113,7 +110,7 @@ mul-look-2 : tie.Need-offset_bounds-look-recent invariant-loop decreases-loop
 mul-look-2 c = search rules
 
 slice-write-look-2 : tie.Need-bounds-look-recent invariant-loop decreases-loop
-slice-write-look-2 c = simp length-set (omega (arith, ring-fits c.before.before.before.before.before.before))
+slice-write-look-2 c = simp length-set (omega (arith, ring-fits c.before.before.before.before))
 
 add-k : tie.Need-overflow_add-k invariant-loop decreases-loop
 add-k c = search rules
@@ -123,17 +120,14 @@ loop-less c = search rules
 
 loop-again : tie.Need-loop-k-preserved invariant-loop decreases-loop
 loop-again c =
-    let p = c.before.before.before in
-    let i = p.before.before.before in
-    let l = i.before in
-    let s = l.before.before in
-    let k = l.loop-k.k in
-    let h = i.loop-k-test.true in (
+    let s = c.before.before.before.before.before.before.before in
+    let k = c.loop-k.k in
+    let h = c.loop-k-test.true in (
       omega arith,
-      rebase-turns s.args.n (looks s) (shaped s) k h l.loop-k.look l.loop-k.invariant.1 p.sum-p.result c.sum-r.result
-          (p.sum-p.ensures ∙ ap (total f0) (first-half s.args.n (looks s) (shaped s) k h l.loop-k.look l.loop-k.invariant.1))
-          (c.sum-r.ensures ∙ ap (total f0) (last-half s.args.n (looks s) (shaped s) k h l.loop-k.look l.loop-k.invariant.1)),
-      simp length-set l.loop-k.invariant.2,
+      rebase-turns c.args.n (looks s) (shaped s) k h c.loop-k.look c.loop-k.invariant.1 c.sum-p.result c.sum-r.result
+          (c.sum-p.ensures ∙ ap (total f0) (first-half c.args.n (looks s) (shaped s) k h c.loop-k.look c.loop-k.invariant.1))
+          (c.sum-r.ensures ∙ ap (total f0) (last-half c.args.n (looks s) (shaped s) k h c.loop-k.look c.loop-k.invariant.1)),
+      simp length-set c.loop-k.invariant.2,
     )
 
 same_length : tie.Need-shape_of-look invariant-loop decreases-loop
@@ -141,11 +135,10 @@ same_length c = search rules
 
 returns : tie.Need-returns invariant-loop decreases-loop
 returns c =
-    let l = c.before in
-    let s = l.before.before in
-    l.loop-k.invariant.1
-    ∙ ap (rebased_to (looks s)) (le_antisymm l.loop-k.invariant.0 c.loop-k-test.false)
-    ∙ rebase-done s.args.n (looks s) (shaped s)
+    let s = c.before.before.before in
+    c.loop-k.invariant.1
+    ∙ ap (rebased_to (looks s)) (le_antisymm c.loop-k.invariant.0 c.loop-k-test.false)
+    ∙ rebase-done c.args.n (looks s) (shaped s)
 
 pub rebase_look_spec : {M : Type 1} → statement M
 rebase_look_spec =

@@ -15,7 +15,7 @@ rebase-look-requires c κs =
     let a = c.before.before in
     let p = a.before.before.before in
     let s = p.before.before.before.before in
-    still-fits s.args.look_1.now s.args.c s.args.samples.now a.advance-next.result _ s.requires.0 a.advance-next.ensures p.push_look.ensures
+    still-fits s.args.look.now s.args.c s.args.samples.now a.advance-next.result _ s.requires.0 a.advance-next.ensures p.push_look.ensures
 
 same_length : tie.Need-shape_of-look-then-at-eq0
 same_length c = search rules
@@ -27,7 +27,7 @@ returns c =
     let a = t.before in
     let p = a.before.before.before in
     let s = p.before.before.before.before in
-    steps-round s.args.look_1.now s.args.c s.args.samples.now a.advance-next.result _ _ s.requires.0.long a.advance-next.ensures
+    steps-round s.args.look.now s.args.c s.args.samples.now a.advance-next.result _ _ s.requires.0.long a.advance-next.ensures
     p.push_look.ensures t.if-at-eq0.true b.rebase_look.ensures
 
 same-length-2 : tie.Need-shape_of-look
@@ -38,7 +38,7 @@ returns-2 c =
     let a = c.before in
     let p = a.before.before.before in
     let s = p.before.before.before.before in
-    steps_on s.args.look_1.now s.args.c s.args.samples.now a.advance-next.result _ a.advance-next.ensures p.push_look.ensures c.if-at-eq0.false
+    steps_on s.args.look.now s.args.c s.args.samples.now a.advance-next.result _ a.advance-next.ensures p.push_look.ensures c.if-at-eq0.false
 
 pub step_look_spec : {M : Type 1} → statement M
 step_look_spec =
