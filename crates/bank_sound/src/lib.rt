@@ -1,5 +1,7 @@
 // Whether a channel's part of the bank's store is sound. It is asked of what `bank_sixteens` leaves: silence, fewer than eight channels, rings of
 // different fill. Its loops count what is wrong and never leave early: such a loop is compiled to wide steps.
+#![tactic(auto)]
+
 ghost use Rattle.std.specs.Prelude.{◌≡◌, not, ℕ, ◌+◌, ◌≤◌, ◌<◌, ltb, eqb, length, get_or};
 ghost use Rattle.laws.specs.Lists.{one};
 ghost use Rattle.laws.specs.Tests.{all_below};

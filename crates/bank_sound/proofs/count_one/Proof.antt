@@ -28,18 +28,18 @@ add_at : tie.Need-overflow_add-at
 add_at c = omega (arith, bin c.before)
 
 element-copy-out-t : tie.Need-bounds-t-at
-element-copy-out-t c = omega (arith, bin c.before)
+element-copy-out-t c = omega (arith, bin c.before.before)
 
 add-t : tie.Need-overflow_add-t
 add-t c = let s = c.before.before in
-    omega (arith, tallied-le s.args.chan.now s.args.t_1.now s.args.i (get_or s.args.chan.now s.args.i 0) s.args.lane (omega arith) s.requires.1 (bin s) (omega arith))
+    omega (arith, tallied-le s.args.chan.now s.args.t.now s.args.i (get_or s.args.chan.now s.args.i 0) s.args.lane (omega arith) s.requires.1 (bin s.before) (omega arith))
 
 element-write-t : tie.Need-bounds-t-at-2
-element-write-t c = omega (arith, bin c.before.before)
+element-write-t c = omega (arith, bin c.before.before.before)
 
 returns : tie.Need-returns
 returns c = let s = c.before.before in
-    tallied-more s.args.chan.now s.args.t_1.now s.args.i s.args.lane (omega arith) (omega arith) (bin s) s.requires.1
+    tallied-more s.args.chan.now s.args.t.now s.args.i s.args.lane (omega arith) (omega arith) (bin s.before) s.requires.1
 
 pub count_one_spec : {M : Type 1} → statement M
 count_one_spec =

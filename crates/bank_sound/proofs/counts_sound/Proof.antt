@@ -39,7 +39,7 @@ count-rest-requires c κs = search rules
 
 joined-requires : tie.Need-joined-sums-requires
 joined-requires c κs = let s = c.before.before.before.before.before.before.before.before in
-    λ b h. omega (arith, sum-le s.args.chan.now c.before.count_rest.new.0 s.args.filled b (omega arith) c.before.count_rest.ensures h)
+    λ b h. omega (arith, sum-le s.args.chan.now c.before.count_rest.new.t s.args.filled b (omega arith) c.before.count_rest.ensures h)
 
 as-tallied-requires : tie.Need-as_tallied-requires
 as-tallied-requires c κs = search rules
@@ -50,7 +50,7 @@ returns-2 c = let j = c.before.before in
     let s = c.before.before.before.before.before.before.before.before.before.before.before in
     c.as_tallied.ensures
     ∙ counts-sound s.args.chan.now j.joined-sums.result (omega arith)
-    (λ b h. j.joined-sums.ensures b h ∙ r.sums-1 b h ∙ ap (λ (n : ℕ). occ b (take n s.args.chan.now)) s.requires.0.1)
+    (λ b h. j.joined-sums.ensures b h ∙ r.sums b h ∙ ap (λ (n : ℕ). occ b (take n s.args.chan.now)) s.requires.0.1)
 
 pub counts_sound_spec : {M : Type 1} → statement M
 counts_sound_spec =

@@ -32,7 +32,7 @@ element-copy-out-sums-2 : tie.Need-bounds-t-b-in-loop-b invariant-loop decreases
 element-copy-out-sums-2 c = search rules
 
 add-sums-2 : tie.Need-overflow_add-sums-in-loop-b invariant-loop decreases-loop
-add-sums-2 c = omega (arith, fits c.before.before)
+add-sums-2 c = omega (arith, fits c.before.before.before)
 
 mul-sums : tie.Need-overflow_mul-sums invariant-loop decreases-loop
 mul-sums c = search rules
@@ -44,7 +44,7 @@ element-copy-out-sums-3 : tie.Need-bounds-t-b-in-loop-b-2 invariant-loop decreas
 element-copy-out-sums-3 c = search rules
 
 add-sums-4 : tie.Need-overflow_add-sums-in-loop-b-3 invariant-loop decreases-loop
-add-sums-4 c = omega (arith, fits c.before.before.before)
+add-sums-4 c = omega (arith, fits c.before.before.before.before)
 
 mul-sums-2 : tie.Need-overflow_mul-sums-in-loop-b invariant-loop decreases-loop
 mul-sums-2 c = search rules
@@ -56,7 +56,7 @@ element-copy-out-sums-4 : tie.Need-bounds-t-b-in-loop-b-3 invariant-loop decreas
 element-copy-out-sums-4 c = search rules
 
 add-sums-6 : tie.Need-overflow_add-sums-in-loop-b-5 invariant-loop decreases-loop
-add-sums-6 c = omega (arith, fits c.before.before.before.before)
+add-sums-6 c = omega (arith, fits c.before.before.before.before.before)
 
 array-write-sums : tie.Need-bounds-sums-b invariant-loop decreases-loop
 array-write-sums c = search rules
@@ -69,7 +69,7 @@ loop-less c = search rules
 
 loop-again : tie.Need-loop-b-preserved invariant-loop decreases-loop
 loop-again c = let l = c.before.before.before.before.before in
-    (omega arith, simp length-set l.loop-b.invariant.1, joined-more l.loop-b.b l.before.args.t.now l.loop-b.sums-1 (omega arith) l.loop-b.invariant.2)
+    (omega arith, simp length-set l.loop-b.invariant.1, joined-more l.loop-b.b l.before.args.t.now l.loop-b.sums (omega arith) l.loop-b.invariant.2)
 
 returns : tie.Need-returns invariant-loop decreases-loop
 returns c = λ b h. c.before.loop-b.invariant.2 b (omega arith)
