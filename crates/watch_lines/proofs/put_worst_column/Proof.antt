@@ -5,15 +5,15 @@ use Rattle.watch_lines.proofs.Texts.{no-column, column}
 use Rattle.watch_lines.proofs.put_worst_column.Statement.{statement}
 use Rattle.watch_lines.proofs.put_worst_column.Tie as tie
 
-returns : tie.Need-returns
-returns c = let a = c.before.args in no-column _ a.is-kept a.x (not-true a.is-kept c.if1.true)
+returns : tie.Need-returns-then-not-is_kept
+returns c = let a = c.before.args in no-column _ a.is-kept a.x (not-true a.is-kept c.if-not-is_kept.true)
 
-put-worst-requires : tie.Need-put-worst-requires
+put-worst-requires : tie.Need-put_worst-requires
 put-worst-requires c κs = search rules
 
-returns-2 : tie.Need-returns-2
+returns-2 : tie.Need-returns
 returns-2 c = let a = c.before.before.before.args in
-    column _ _ a.is-kept a.x (not-false a.is-kept c.before.before.if1.false) c.put-worst.ensures
+    column _ _ a.is-kept a.x (not-false a.is-kept c.before.before.if-not-is_kept.false) c.put_worst.ensures
 
-pub put-worst-column-spec : {M : Type 1} → statement M
-put-worst-column-spec = tie.close (tie.spec returns put-worst-requires returns-2)
+pub put_worst_column_spec : {M : Type 1} → statement M
+put_worst_column_spec = tie.close (tie.spec returns put-worst-requires returns-2)
