@@ -1,4 +1,6 @@
 // The lines of a report: which figure stands in which column.
+#![tactic(auto)]
+
 pub mod explained;
 
 ghost use Rattle.std.specs.Prelude.{◌≡◌, [], ◌∷◌};
