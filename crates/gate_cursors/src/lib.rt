@@ -1,4 +1,6 @@
 // The triples of the gate's lengths: m, cursor and filled, from the sixth entry of the u16 store on.
+#![tactic(auto)]
+
 ghost use Rattle.std.specs.Prelude.{◌≡◌, ◌+◌, ◌*◌, ◌<◌, length, set};
 ghost use Rattle.gate_cursors.specs.Paired.{cursor_of};
 
