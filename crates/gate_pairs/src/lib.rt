@@ -1,4 +1,6 @@
 // R-3: the remembered thresholds. The last 2n floats of a gate: the rise floor last used of each channel, then their thresholds.
+#![tactic(auto)]
+
 ghost use Rattle.std.specs.Prelude.{◌≡◌, ◌++◌, ◌*◌, ◌<◌, length};
 ghost use Rattle.laws.specs.Lists.{tab};
 ghost use Rattle.model.specs.Stores.{bank_of};
