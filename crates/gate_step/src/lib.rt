@@ -1,4 +1,6 @@
 // The step of a gate update: the smoothed dB, then the windows of each length, then started.
+#![tactic(auto)]
+
 ghost use Rattle.std.specs.Prelude.{◌≡◌, length, get_or};
 ghost use Rattle.laws.specs.Lists.{tab};
 ghost use Rattle.model.specs.Numbers.{f0, smoothed};

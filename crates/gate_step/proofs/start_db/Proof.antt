@@ -10,49 +10,49 @@ use borrow.Author.Rules.{rules}
 use Rattle.gate_step.proofs.start_db.Statement.{statement}
 use Rattle.gate_step.proofs.start_db.Tie as tie
 
-abbrev invariant-loop : tie.invariant-loop
+abbrev invariant-loop : tie.invariant-loop-k
 invariant-loop smooth₀ power-db k₀ smooth k = Filled smooth₀ (λ i. get_or power-db i f0) k smooth
 
-abbrev decreases-loop : tie.decreases-loop
+abbrev decreases-loop : tie.decreases-loop-k
 decreases-loop smooth₀ power-db k₀ smooth k = length smooth₀ - k
 
-loop-holds : tie.Need-loop-init invariant-loop decreases-loop
+loop-holds : tie.Need-loop-k-init invariant-loop decreases-loop
 loop-holds c = begins _ _
 
-mul-smooth : tie.Need-overflow-mul-smooth invariant-loop decreases-loop
+mul-smooth : tie.Need-offset_bounds-power_db-k invariant-loop decreases-loop
 mul-smooth c = search rules
 
-shared-slice-read-smooth : tie.Need-shared-slice-read-smooth invariant-loop decreases-loop
+shared-slice-read-smooth : tie.Need-bounds-power_db-k invariant-loop decreases-loop
 shared-slice-read-smooth c = search rules
 
-mul-smooth-2 : tie.Need-overflow-mul-smooth-2 invariant-loop decreases-loop
+mul-smooth-2 : tie.Need-offset_bounds-smooth-k invariant-loop decreases-loop
 mul-smooth-2 c = search rules
 
-slice-write-smooth : tie.Need-slice-write-smooth invariant-loop decreases-loop
+slice-write-smooth : tie.Need-bounds-smooth-k invariant-loop decreases-loop
 slice-write-smooth c = search rules
 
-add-k : tie.Need-overflow-add-k invariant-loop decreases-loop
+add-k : tie.Need-overflow_add-k invariant-loop decreases-loop
 add-k c = search rules
 
-loop-less : tie.Need-loop-smaller invariant-loop decreases-loop
+loop-less : tie.Need-loop-k-smaller invariant-loop decreases-loop
 loop-less c = search rules
 
-loop-again : tie.Need-loop-preserved invariant-loop decreases-loop
+loop-again : tie.Need-loop-k-preserved invariant-loop decreases-loop
 loop-again c = let l = c.before.before in
     let s = l.before in
-    turns s.args.smooth.now (λ i. get_or s.args.power-db.now i f0) l.loop.k l.loop.smooth (get_or s.args.power-db.now l.loop.k nan) l.loop.invariant (omega arith)
-    (get_d_any s.args.power-db.now l.loop.k nan f0 (omega arith))
+    turns s.args.smooth.now (λ i. get_or s.args.power_db.now i f0) l.loop-k.k l.loop-k.smooth (get_or s.args.power_db.now l.loop-k.k nan) l.loop-k.invariant (omega arith)
+    (get_d_any s.args.power_db.now l.loop-k.k nan f0 (omega arith))
 
-same_length : tie.Need-same-length invariant-loop decreases-loop
+same_length : tie.Need-shape_of-smooth invariant-loop decreases-loop
 same_length c = search rules
 
 returns : tie.Need-returns invariant-loop decreases-loop
 returns c = let l = c.before in
     let s = l.before in
-    done s.args.smooth.now (λ i. get_or s.args.power-db.now i f0) l.loop.k l.loop.smooth l.loop.invariant (omega arith)
+    done s.args.smooth.now (λ i. get_or s.args.power_db.now i f0) l.loop-k.k l.loop-k.smooth l.loop-k.invariant (omega arith)
 
-pub start-db-spec : {M : Type 1} → statement M
-start-db-spec =
+pub start_db_spec : {M : Type 1} → statement M
+start_db_spec =
     tie.close
     (tie.spec
     invariant-loop

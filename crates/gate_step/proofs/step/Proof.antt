@@ -17,68 +17,68 @@ use borrow.Author.Rules.{rules}
 use Rattle.gate_step.proofs.step.Statement.{statement}
 use Rattle.gate_step.proofs.step.Tie as tie
 
-abbrev start : tie.After-smooth-db → tie.Start
-start q = q.before.before.before.before.before.before.before
+abbrev start : tie.After-smooth_db → tie.Start
+start q = q.before.before.before.before.before.before
 
-abbrev smoothed : tie.After-start-powers → tie.After-smooth-db
+abbrev smoothed : tie.After-start_powers → tie.After-smooth_db
 smoothed p = p.before.before.before.before
 
 -- the powers of a hop fit the samples' array
 few : (s : tie.Start) → length s.args.power.now ≤ 512
-few s = omega (arith, s.requires.2, (sizes s.args.gate.now s.args.gate-f.now s.requires.0).high)
+few s = omega (arith, s.requires.2, (sizes s.args.gate.now s.args.gate_f.now s.requires.0).high)
 
 -- as it is before the samples are in it
 abbrev array : List Float
 array = replicate 512 f0
 
-smooth-db-requires : tie.Need-smooth-db-requires
+smooth-db-requires : tie.Need-smooth_db-requires
 smooth-db-requires c κs = search rules
 
-array-borrow-prefix-samples : tie.Need-array-borrow-prefix-samples
+array-borrow-prefix-samples : tie.Need-slice_bounds-samples-end
 array-borrow-prefix-samples c = few (start c.before.before)
 
-slice-aggregate-start-powers : tie.Need-slice-aggregate-start-powers
+slice-aggregate-start-powers : tie.Need-slice_bounds-start_powers-end
 slice-aggregate-start-powers c = let s = start c.before.before.before in
     sym (length-take-le (length s.args.power.now) array (few s))
 
-start-powers-requires : tie.Need-start-powers-requires
+start-powers-requires : tie.Need-start_powers-requires
 start-powers-requires c κs = let s = start c.before.before.before in
     sym (length-take-le (length s.args.power.now) array (few s))
 
 -- the samples that are lent to the windows
-samples-now : (p : tie.After-start-powers)
+samples-now : (p : tie.After-start_powers)
     → let power = (start (smoothed p)).args.power.now in
-    take (length power) (p.start-powers.new.0 ++ drop (length power) array) ≡ tab (length power) (sample_of power)
+    take (length power) (p.start_powers.new.smooth ++ drop (length power) array) ≡ tab (length power) (sample_of power)
 samples-now p = let s = start (smoothed p) in
-    samples-are array p.start-powers.new.0 s.args.power.now (few s) p.start-powers.ensures
+    samples-are array p.start_powers.new.smooth s.args.power.now (few s) p.start_powers.ensures
 
-samples-long : (p : tie.After-start-powers)
+samples-long : (p : tie.After-start_powers)
     → let power = (start (smoothed p)).args.power.now in
-    length (take (length power) (p.start-powers.new.0 ++ drop (length power) array)) ≡ length power
+    length (take (length power) (p.start_powers.new.smooth ++ drop (length power) array)) ≡ length power
 samples-long p = let power = (start (smoothed p)).args.power.now in
     ap length (samples-now p) ∙ length-tab (length power) (sample_of power)
 
-array-share-prefix-samples : tie.Need-array-share-prefix-samples
+array-share-prefix-samples : tie.Need-slice_bounds-samples-end-2
 array-share-prefix-samples c = let p = c.before.before.before in
     let s = start (smoothed p) in
-    samples-fit array p.start-powers.new.0 s.args.power.now (few s) p.start-powers.ensures
+    samples-fit array p.start_powers.new.smooth s.args.power.now (few s) p.start_powers.ensures
 
-slice-aggregate-step-looks : tie.Need-slice-aggregate-step-looks
+slice-aggregate-step-looks : tie.Need-slice_bounds-step_looks-end
 slice-aggregate-step-looks c = sym (samples-long c.before.before.before.before)
 
-step-looks-requires : tie.Need-step-looks-requires
+step-looks-requires : tie.Need-step_looks-requires
 step-looks-requires c κs = let p = c.before.before.before.before in
     let q = smoothed p in
     let s = start q in
-    (smoothed-ready s.args.gate.now s.args.gate-f.now s.pre.0 s.args.power-db.now q.smooth-db.last.0 q.smooth-db.ensures, samples-long p ∙ s.pre.2)
+    (smoothed-ready s.args.gate.now s.args.gate_f.now s.requires.0 s.args.power_db.now q.smooth_db.new.gate_f q.smooth_db.ensures, samples-long p ∙ s.requires.2)
 
-slice-write-gate : tie.Need-slice-write-gate
+slice-write-gate : tie.Need-bounds-gate-1
 slice-write-gate c = search rules
 
-same_length : tie.Need-same-length
+same_length : tie.Need-shape_of-gate
 same_length c = search rules
 
-same-length-2 : tie.Need-same-length-2
+same-length-2 : tie.Need-shape_of-gate_f
 same-length-2 c = search rules
 
 returns : tie.Need-returns
@@ -87,8 +87,8 @@ returns c = let w = c.before.before.before.before in
     let q = smoothed p in
     let s = start q in
     let power = s.args.power.now in
-    step-done s.args.gate.now s.args.gate-f.now s.pre.0 s.args.power-db.now q.smooth-db.last.0 q.smooth-db.ensures _ power w.step-looks.new.0
-    w.step-looks.new.1.0 (samples-now p ∙ ap (λ (n : ℕ). tab n (sample_of power)) s.pre.2) w.step-looks.ensures
+    step-done s.args.gate.now s.args.gate_f.now s.requires.0 s.args.power_db.now q.smooth_db.new.gate_f q.smooth_db.ensures _ power w.step_looks.new.gate
+    w.step_looks.new.gate_f (samples-now p ∙ ap (λ (n : ℕ). tab n (sample_of power)) s.requires.2) w.step_looks.ensures
 
 pub step_spec : {M : Type 1} → statement M
 step_spec =
