@@ -3,34 +3,30 @@ use Rattle.watch_lines.proofs.Texts.{last, then, both, plain}
 use Rattle.watch_fault_lines.proofs.put_bad_band.Statement.{statement}
 use Rattle.watch_fault_lines.proofs.put_bad_band.Tie as tie
 
-put-place-requires : tie.Need-put-place-requires
+put-place-requires : tie.Need-put_place-at-requires
 put-place-requires c κs = search rules
 
 wide-requires : tie.Need-wide-requires
 wide-requires c κs = search rules
 
-put-number-requires : tie.Need-put-number-requires
+put-number-requires : tie.Need-put_number-at-requires
 put-number-requires c κs = search rules
 
-slice-aggregate-put-text : tie.Need-slice-aggregate-put-text
-slice-aggregate-put-text c = search rules
-
-put-text-requires : tie.Need-put-text-requires
+put-text-requires : tie.Need-put_text-requires
 put-text-requires c κs = search rules
 
 returns : tie.Need-returns
 returns c =
-    both _ _ _ _ _ c.before.before.before.before.before.before.put-place.ensures
-    (then _ _ _ _ _ (plain _ _ _ (rw c.before.before.before.before.wide.ensures.0 at c.before.before.before.put-number.ensures))
-    (last _ _ _ c.put-text.ensures))
+    both _ _ _ _ _ c.before.before.before.before.before.before.put_place-at.ensures
+    (then _ _ _ _ _ (plain _ _ _ (rw c.before.before.before.before.wide.ensures.0 at c.before.before.before.put_number-at.ensures))
+    (last _ _ _ c.put_text.ensures))
 
-pub put-bad-band-spec : {M : Type 1} → statement M
-put-bad-band-spec =
+pub put_bad_band_spec : {M : Type 1} → statement M
+put_bad_band_spec =
     tie.close
     (tie.spec
     put-place-requires
     wide-requires
     put-number-requires
-    slice-aggregate-put-text
     put-text-requires
     returns)

@@ -3,48 +3,36 @@ use Rattle.watch_lines.proofs.Texts.{last, then, plain}
 use Rattle.watch_fault_lines.proofs.put_place.Statement.{statement}
 use Rattle.watch_fault_lines.proofs.put_place.Tie as tie
 
-slice-aggregate-put-text : tie.Need-slice-aggregate-put-text
-slice-aggregate-put-text c = search rules
-
-put-text-requires : tie.Need-put-text-requires
+put-text-requires : tie.Need-put_text-at-requires
 put-text-requires c κs = search rules
 
-put-number-requires : tie.Need-put-number-requires
+put-number-requires : tie.Need-put_number-at-requires
 put-number-requires c κs = search rules
 
-slice-aggregate-put-text-2 : tie.Need-slice-aggregate-put-text-2
-slice-aggregate-put-text-2 c = search rules
-
-put-text-requires-2 : tie.Need-put-text-requires-2
+put-text-requires-2 : tie.Need-put_text-at-requires-2
 put-text-requires-2 c κs = search rules
 
-put-number-requires-2 : tie.Need-put-number-requires-2
+put-number-requires-2 : tie.Need-put_number-at-requires-2
 put-number-requires-2 c κs = search rules
 
-slice-aggregate-put-text-3 : tie.Need-slice-aggregate-put-text-3
-slice-aggregate-put-text-3 c = search rules
-
-put-text-requires-3 : tie.Need-put-text-requires-3
+put-text-requires-3 : tie.Need-put_text-requires
 put-text-requires-3 c κs = search rules
 
 returns : tie.Need-returns
 returns c =
-    then _ _ _ _ _ c.before.before.before.before.before.before.before.before.before.before.put-text.ensures
-    (then _ _ _ _ _ (plain _ _ _ c.before.before.before.before.before.before.before.before.put-number.ensures)
-    (then _ _ _ _ _ c.before.before.before.before.before.put-text2.ensures
-    (then _ _ _ _ _ (plain _ _ _ c.before.before.before.put-number2.ensures)
-    (last _ _ _ c.put-text3.ensures))))
+    then _ _ _ _ _ c.before.before.before.before.before.before.before.before.before.before.put_text-at.ensures
+    (then _ _ _ _ _ (plain _ _ _ c.before.before.before.before.before.before.before.before.put_number-at.ensures)
+    (then _ _ _ _ _ c.before.before.before.before.before.put_text-at-2.ensures
+    (then _ _ _ _ _ (plain _ _ _ c.before.before.before.put_number-at-2.ensures)
+    (last _ _ _ c.put_text.ensures))))
 
-pub put-place-spec : {M : Type 1} → statement M
-put-place-spec =
+pub put_place_spec : {M : Type 1} → statement M
+put_place_spec =
     tie.close
     (tie.spec
-    slice-aggregate-put-text
     put-text-requires
     put-number-requires
-    slice-aggregate-put-text-2
     put-text-requires-2
     put-number-requires-2
-    slice-aggregate-put-text-3
     put-text-requires-3
     returns)
