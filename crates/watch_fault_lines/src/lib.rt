@@ -1,4 +1,6 @@
 // The lines on what is wrong with a recording or a log, from behind its name: which number stands where.
+#![tactic(auto)]
+
 ghost use Rattle.std.specs.Prelude.{◌≡◌};
 ghost use Rattle.watch_lines.specs.Lines.{put_texts};
 ghost use Rattle.watch_fault_lines.specs.FaultLines.{place_text, bad_band_line, room_text, too_large_line, refusal_text, refused_line, bad_flag_line, cut_place};
