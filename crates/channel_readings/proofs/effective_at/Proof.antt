@@ -8,16 +8,16 @@ use borrow.Author.Rules.{rules}
 use Rattle.channel_readings.proofs.effective_at.Statement.{statement}
 use Rattle.channel_readings.proofs.effective_at.Tie as tie
 
-sources-at-requires : tie.Need-sources-at-requires
+sources-at-requires : tie.Need-sources_at-x-requires
 sources-at-requires c κs = search rules
 
-effective-floor-requires : tie.Need-effective-floor-requires
+effective-floor-requires : tie.Need-effective_floor-requires
 effective-floor-requires c κs = search rules
 
 returns : tie.Need-returns
 unfolding effective_at sources_at
-returns c = c.effective-floor.ensures
-    ∙ ap (λ (x : Sources). effective_floor x.usable x.block_floor x.since x.pushes x.sum) c.before.sources-at.ensures
+returns c = c.effective_floor.ensures
+    ∙ ap (λ (x : Sources). effective_floor x.usable x.block_floor x.since x.pushes x.sum) c.before.sources_at-x.ensures
 
-pub effective-at-spec : {M : Type 1} → statement M
-effective-at-spec = tie.close (tie.spec sources-at-requires effective-floor-requires returns)
+pub effective_at_spec : {M : Type 1} → statement M
+effective_at_spec = tie.close (tie.spec sources-at-requires effective-floor-requires returns)
