@@ -21,69 +21,69 @@ use Rattle.window_rises.proofs.mark_full.Tie as tie
 abbrev mark_of : List Float → List Float → List Float → Float → List ℕ → ℕ → ℕ
 mark_of recent previous thresholds m rise k = marked (get_or rise k 0) (sums_rise recent previous k (mul binary64 (get_or thresholds k f0) m))
 
-abbrev invariant-loop : tie.invariant-loop
+abbrev invariant-loop : tie.invariant-loop-k
 invariant-loop recent previous thresholds m rise₀ n k₀ rise k = Filled rise₀ (mark_of recent previous thresholds m rise₀) k rise
 
-abbrev decreases-loop : tie.decreases-loop
+abbrev decreases-loop : tie.decreases-loop-k
 decreases-loop recent previous thresholds m rise₀ n k₀ rise k = length rise₀ - k
 
-loop-holds : tie.Need-loop-init invariant-loop decreases-loop
+loop-holds : tie.Need-loop-k-init invariant-loop decreases-loop
 loop-holds c = begins _ _
 
-slice-read-if1 : tie.Need-slice-read-if1 invariant-loop decreases-loop
+slice-read-if1 : tie.Need-bounds-rise-k invariant-loop decreases-loop
 slice-read-if1 c = search rules
 
-mul-sums-rise : tie.Need-overflow-mul-sums-rise invariant-loop decreases-loop
+mul-sums-rise : tie.Need-offset_bounds-thresholds-k invariant-loop decreases-loop
 mul-sums-rise c = search rules
 
-shared-slice-read-sums-rise : tie.Need-shared-slice-read-sums-rise invariant-loop decreases-loop
+shared-slice-read-sums-rise : tie.Need-bounds-thresholds-k invariant-loop decreases-loop
 shared-slice-read-sums-rise c = search rules
 
-sums-rise-requires : tie.Need-sums-rise-requires invariant-loop decreases-loop
+sums-rise-requires : tie.Need-sums_rise-requires invariant-loop decreases-loop
 sums-rise-requires c κs = search rules
 
-slice-write-rise : tie.Need-slice-write-rise invariant-loop decreases-loop
+slice-write-rise : tie.Need-bounds-rise-k-then-sums_rise invariant-loop decreases-loop
 slice-write-rise c = search rules
 
-add-k : tie.Need-overflow-add-k invariant-loop decreases-loop
+add-k : tie.Need-overflow_add-k invariant-loop decreases-loop
 add-k c = search rules
 
-loop-less : tie.Need-loop-smaller invariant-loop decreases-loop
+loop-less : tie.Need-loop-k-smaller invariant-loop decreases-loop
 loop-less c = search rules
 
-loop-again : tie.Need-loop-preserved invariant-loop decreases-loop
+loop-again : tie.Need-loop-k-preserved invariant-loop decreases-loop
 loop-again c = let l = c.before.before.before in
     let a = l.before.before.before.before.before.args in
-    let k = l.loop.k in
+    let k = l.loop-k.k in
     let f : ℕ → ℕ = mark_of a.recent.now a.previous.now a.thresholds.now a.m a.rise.now in
     let t : ℕ → Float → Bool = λ i x. sums_rise a.recent.now a.previous.now i (mul binary64 x a.m) in
-    let e : get_or l.loop.rise k 0 ≡ get_or a.rise.now k 0 = unwritten a.rise.now f k l.loop.rise 0 0 l.loop.invariant (omega arith) in
+    let e : get_or l.loop-k.rise k 0 ≡ get_or a.rise.now k 0 = unwritten a.rise.now f k l.loop-k.rise 0 0 l.loop-k.invariant (omega arith) in
     let q = ap (t k) (get_d_any a.thresholds.now k nan f0 (omega arith)) in
-    let same : get_or a.rise.now k 0 ≡ f k → Filled a.rise.now f (k + 1) l.loop.rise =
-    stays a.rise.now f k l.loop.rise 0 l.loop.invariant (omega arith) in
+    let same : get_or a.rise.now k 0 ≡ f k → Filled a.rise.now f (k + 1) l.loop-k.rise =
+    stays a.rise.now f k l.loop-k.rise 0 l.loop-k.invariant (omega arith) in
     ⊎_elim
     (λ w.
     subst (Filled a.rise.now f (k + 1)) (sym w.4)
-    (turns a.rise.now f k l.loop.rise 1 l.loop.invariant (omega arith)
+    (turns a.rise.now f k l.loop-k.rise 1 l.loop-k.invariant (omega arith)
     (ap one (sym w.3.taken ∙ w.2.ensures ∙ q) ∙ marked-anew (get_or a.rise.now k 0) _ (sym e ∙ w.0.taken))))
     (⊎_elim
     (λ w.
     subst (Filled a.rise.now f (k + 1)) (sym w.4)
     (same (marked-not (get_or a.rise.now k 0) _ (sym q ∙ sym w.2.ensures ∙ w.3.left))))
     (λ w. subst (Filled a.rise.now f (k + 1)) (sym w.1) (same (marked-stays (get_or a.rise.now k 0) _ (λ z. w.0.left (e ∙ z))))))
-    c.if1.branch
+    c.if-rise-k-eq0.branch
 
-same_length : tie.Need-same-length invariant-loop decreases-loop
+same_length : tie.Need-shape_of-rise invariant-loop decreases-loop
 same_length c = search rules
 
 returns : tie.Need-returns invariant-loop decreases-loop
 returns c = let l = c.before in
     let a = l.before.before.before.before.before.args in
-    done a.rise.now (mark_of a.recent.now a.previous.now a.thresholds.now a.m a.rise.now) l.loop.k l.loop.rise l.loop.invariant
+    done a.rise.now (mark_of a.recent.now a.previous.now a.thresholds.now a.m a.rise.now) l.loop-k.k l.loop-k.rise l.loop-k.invariant
     (omega arith)
 
-pub mark-full-spec : {M : Type 1} → statement M
-mark-full-spec =
+pub mark_full_spec : {M : Type 1} → statement M
+mark_full_spec =
     tie.close
     (tie.spec
     invariant-loop

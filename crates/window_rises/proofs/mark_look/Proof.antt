@@ -29,74 +29,74 @@ none-rises : (n : ℕ) (t : Float) (k : ℕ) (l : PowerLooks) → (l.filled ≡ 
 unfolding look_rises
 none-rises n t k l h = rw (ne_eqb l.filled (2 * l.m) h)
 
-mul-if1 : tie.Need-overflow-mul-if1
+mul-if1 : tie.Need-overflow_mul-m
 mul-if1 c = search rules
 
-returns : tie.Need-returns
+returns : tie.Need-returns-then-filled-m
 returns c = let a = c.before.before.before.before.args in
-    let n = length a.rise.now in
-    none-marked a.rise.now _ (λ k. none-rises n (get_or a.thresholds.now k f0) k (looks_in a.look.now a.c n) c.if1.true)
+    let n = length a.rise-1.now in
+    none-marked a.rise-1.now _ (λ k. none-rises n (get_or a.thresholds.now k f0) k (looks_in a.look.now a.c n) c.if-filled-m.true)
 
-mul-recent : tie.Need-overflow-mul-recent
+mul-recent : tie.Need-overflow_mul-recent
 mul-recent c = search rules
 
-mul-recent-2 : tie.Need-overflow-mul-recent-2
+mul-recent-2 : tie.Need-overflow_mul-recent-2
 mul-recent-2 c = search rules
 
-add-previous : tie.Need-overflow-add-previous
+add-previous : tie.Need-overflow_add-previous
 add-previous c = search rules
 
-add-end : tie.Need-overflow-add-end
+add-end : tie.Need-overflow_add-end
 add-end c = search rules
 
-mul-mark-full : tie.Need-overflow-mul-mark-full
+mul-mark-full : tie.Need-offset_bounds-look-recent
 mul-mark-full c = search rules
 
-sub-mark-full : tie.Need-overflow-sub-mark-full
+sub-mark-full : tie.Need-slice_bounds-mark_full-count
 sub-mark-full c = search rules
 
-part-mark-full-start : tie.Need-slice-bounds-mark-full-start
+part-mark-full-start : tie.Need-slice_bounds-mark_full-start
 part-mark-full-start c = search rules
 
-part-mark-full-end : tie.Need-slice-bounds-mark-full-end
+part-mark-full-end : tie.Need-slice_bounds-mark_full-end
 part-mark-full-end c = search rules
 
-mul-mark-full-2 : tie.Need-overflow-mul-mark-full-2
+mul-mark-full-2 : tie.Need-offset_bounds-look-previous
 mul-mark-full-2 c = search rules
 
-sub-mark-full-2 : tie.Need-overflow-sub-mark-full-2
+sub-mark-full-2 : tie.Need-slice_bounds-mark_full-count-2
 sub-mark-full-2 c = search rules
 
-part-mark-full-start-2 : tie.Need-slice-bounds-mark-full-start-2
+part-mark-full-start-2 : tie.Need-slice_bounds-mark_full-start-2
 part-mark-full-start-2 c = search rules
 
-part-mark-full-end-2 : tie.Need-slice-bounds-mark-full-end-2
+part-mark-full-end-2 : tie.Need-slice_bounds-mark_full-end-2
 part-mark-full-end-2 c = search rules
 
-int-to-float-mark-full : tie.Need-int-to-float-mark-full
+int-to-float-mark-full : tie.Need-int_to_float-m
 unfolding in_float
 int-to-float-mark-full c = le→leb c.before.before.before.before.before.before.before.args.c.m (2 ^ 53) (omega arith)
 
-mark-full-requires : tie.Need-mark-full-requires
+mark-full-requires : tie.Need-mark_full-requires
 mark-full-requires c κs = search rules
 
-same_length : tie.Need-same-length
+same_length : tie.Need-shape_of-rise
 same_length c = search rules
 
-returns-2 : tie.Need-returns-2
+returns-2 : tie.Need-returns
 returns-2 c = let q = c.before.before in
     let e = q.before.before.before.before.before in
     let a = e.before.before.before.before.args in
-    let n = length a.rise.now in
+    let n = length a.rise-1.now in
     let A : ℕ = 2 * a.c.m * n in
-    (rw (width A n, width (A + n) n) at q.mark-full.ensures)
+    (rw (width A n, width (A + n) n) at q.mark_full.ensures)
     ∙ tab-ext n _ _
     (λ k _.
-    ap (marked (get_or a.rise.now k 0))
-    (full-rises n (get_or a.thresholds.now k f0) k (looks_in a.look.now a.c n) e.if1.false (length_part A n a.look.now (omega arith))))
+    ap (marked (get_or a.rise-1.now k 0))
+    (full-rises n (get_or a.thresholds.now k f0) k (looks_in a.look.now a.c n) e.if-filled-m.false (length_part A n a.look.now (omega arith))))
 
-pub mark-look-spec : {M : Type 1} → statement M
-mark-look-spec =
+pub mark_look_spec : {M : Type 1} → statement M
+mark_look_spec =
     tie.close
     (tie.spec
     mul-if1

@@ -25,39 +25,39 @@ recent-is s b h = ap (le s.args.level) (sym (get_d_any s.args.recent.now s.args.
 previous-is : (s : tie.Start) (b : Bool) → P s ≡ b → le s.args.level (get_or s.args.previous.now s.args.k f0) ≡ b
 previous-is s b h = ap (le s.args.level) (sym (get_d_any s.args.previous.now s.args.k nan f0 (omega arith))) ∙ h
 
-mul-if1 : tie.Need-overflow-mul-if1
+mul-if1 : tie.Need-offset_bounds-recent-k
 mul-if1 c = search rules
 
-shared-slice-read-if1 : tie.Need-shared-slice-read-if1
+shared-slice-read-if1 : tie.Need-bounds-recent-k
 shared-slice-read-if1 c = search rules
 
-returns : tie.Need-returns
+returns : tie.Need-returns-then-not-recent-k
 returns c = let s = c.before.before.before.before in
-    first-fails _ _ _ (recent-is s false (not-true (R s) c.if1.true))
+    first-fails _ _ _ (recent-is s false (not-true (R s) c.if-not-recent-k.true))
 
-mul-if2 : tie.Need-overflow-mul-if2
+mul-if2 : tie.Need-offset_bounds-previous-k
 mul-if2 c = search rules
 
-shared-slice-read-if2 : tie.Need-shared-slice-read-if2
+shared-slice-read-if2 : tie.Need-bounds-previous-k
 shared-slice-read-if2 c = search rules
 
-returns-2 : tie.Need-returns-2
+returns-2 : tie.Need-returns-then-not-previous-k
 returns-2 c = let e = c.before.before in
     let s = e.before.before.before.before in
-    second-fails _ _ _ (recent-is s true (not-false (R s) e.if1.false)) (previous-is s false (not-true (P s) c.if2.true))
+    second-fails _ _ _ (recent-is s true (not-false (R s) e.if-not-recent-k.false)) (previous-is s false (not-true (P s) c.if-not-previous-k.true))
 
-beside-stronger-requires : tie.Need-beside-stronger-requires
+beside-stronger-requires : tie.Need-beside_stronger-requires
 beside-stronger-requires c κs = search rules
 
-returns-3 : tie.Need-returns-3
+returns-3 : tie.Need-returns
 returns-3 c = let f = c.before in
     let e = f.before.before in
     let s = e.before.before.before.before in
-    third-says _ _ _ _ (recent-is s true (not-false (R s) e.if1.false)) (previous-is s true (not-false (P s) f.if2.false))
-    (ap not c.beside-stronger.ensures)
+    third-says _ _ _ _ (recent-is s true (not-false (R s) e.if-not-recent-k.false)) (previous-is s true (not-false (P s) f.if-not-previous-k.false))
+    (ap not c.beside_stronger.ensures)
 
-pub sums-rise-spec : {M : Type 1} → statement M
-sums-rise-spec =
+pub sums_rise_spec : {M : Type 1} → statement M
+sums_rise_spec =
     tie.close
     (tie.spec
     mul-if1

@@ -5,14 +5,14 @@ use native.Mathlib.Omega.{arith}
 use Rattle.window_rises.proofs.wrapped.Statement.{statement}
 use Rattle.window_rises.proofs.wrapped.Tie as tie
 
-returns : tie.Need-returns
-returns c = (sym (mod-eq_of_lt c.if1.true), c.if1.true)
+returns : tie.Need-returns-then-j-n
+returns c = (sym (mod-eq_of_lt c.if-j-n.true), c.if-j-n.true)
 
-returns-2 : tie.Need-returns-2
-returns-2 c = (sym (mod-eq-sub-mod (omega arith) ∙ mod-eq_of_lt c.if2.true), c.if2.true)
+returns-2 : tie.Need-returns-then-once-n
+returns-2 c = (sym (mod-eq-sub-mod (omega arith) ∙ mod-eq_of_lt c.if-once-n.true), c.if-once-n.true)
 
-returns-3 : tie.Need-returns-3
+returns-3 : tie.Need-returns
 returns-3 c = (sym (mod-eq-sub-mod (omega arith) ∙ mod-eq-sub-mod (omega arith) ∙ mod-eq_of_lt (omega arith)), omega arith)
 
-pub wrapped-spec : {M : Type 1} → statement M
-wrapped-spec = tie.close (tie.spec returns returns-2 returns-3)
+pub wrapped_spec : {M : Type 1} → statement M
+wrapped_spec = tie.close (tie.spec returns returns-2 returns-3)
