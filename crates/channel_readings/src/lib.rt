@@ -1,4 +1,6 @@
 // Document 01, "Readings", the bank's half: what is read of a channel of a sound bank.
+#![tactic(auto)]
+
 ghost use Rattle.std.specs.Prelude.{◌≡◌, ◌+◌, ◌*◌, ◌≤◌, ◌<◌, length, get_or};
 ghost use Rattle.model.specs.Layout.{ring_len, channel_len};
 ghost use Rattle.model.specs.Stores.{base, bank_len, bank_of};
