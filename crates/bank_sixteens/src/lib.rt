@@ -1,6 +1,8 @@
 // Whether the channels of a bank's store are sound, many at once: two times eight. It says so of channels that are; of others it says no more than
 // that they have to be asked one by one, by `bank_sound`. This is the hot loop of every call, so what is known of a store that was made and fed by
 // the calls is used: its rings have as many entries each.
+#![tactic(auto)]
+
 ghost use Rattle.std.specs.Prelude.{◌≡◌, true, ℕ, ◌+◌, ◌*◌, ◌≤◌, ◌<◌, eqb, length, get_or};
 ghost use Rattle.laws.specs.Tests.{all_below};
 ghost use Rattle.model.specs.Layout.{bins, ring_len, channel_len};

@@ -2,7 +2,6 @@ use mathlib.Core.Path.{sym}
 use Prim.Native.Nat.{ℕ, ◌≤◌, ◌<◌, ◌-◌, ◌+◌, ◌*◌}
 use native.Mathlib.Omega.{arith}
 use borrow.Author.Rules.{rules}
-use borrow.Author.Tests.{not-false}
 use Rattle.laws.proofs.Lists.{width, length_part}
 use Rattle.laws.proofs.Tests.{clash}
 use Rattle.model.specs.Layout.{channel_len}
@@ -60,7 +59,7 @@ loop-again : tie.Need-loop-k-preserved invariant-loop decreases-loop
 loop-again c = let l = c.before.before.before.before in
     let s = l.before.before in
     let a = s.args.from + channel_len * l.loop-k.k in
-    (omega arith, below_more (λ j. Filled s.args.filled (chan_at s.args.from s.args.bank.now j)) l.loop-k.k l.loop-k.invariant.1 (rw (width a channel_len) at (c.before.is_filled.ensures (not-false _ c.if-not-is_filled.false))))
+    (omega arith, below_more (λ j. Filled s.args.filled (chan_at s.args.from s.args.bank.now j)) l.loop-k.k l.loop-k.invariant.1 (rw (width a channel_len) at (c.before.is_filled.ensures c.if-not-is_filled.false)))
 
 returns-2 : tie.Need-returns invariant-loop decreases-loop
 returns-2 c = λ e k h. c.before.loop-k.invariant.1 k (omega arith)

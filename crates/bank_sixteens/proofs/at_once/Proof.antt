@@ -1,6 +1,5 @@
 use mathlib.Core.Path.{sym}
 use borrow.Author.Rules.{rules}
-use borrow.Author.Tests.{not-false}
 use Rattle.laws.proofs.Tests.{clash}
 use Rattle.bank_sixteens.proofs.at_once.Statement.{statement}
 use Rattle.bank_sixteens.proofs.at_once.Tie as tie
@@ -24,7 +23,7 @@ all-filled-requires-2 : tie.Need-all_filled-requires-2
 all-filled-requires-2 c κs = search rules
 
 returns-3 : tie.Need-returns
-returns-3 c = λ e. (c.before.before.all_filled.ensures (not-false _ c.before.if-not-all_filled.false), c.all_filled-2.ensures e)
+returns-3 c = λ e. (c.before.before.all_filled.ensures c.before.if-not-all_filled.false, c.all_filled-2.ensures e)
 
 pub at_once_spec : {M : Type 1} → statement M
 at_once_spec =

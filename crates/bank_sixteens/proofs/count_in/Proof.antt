@@ -27,7 +27,7 @@ element-copy-out-t c = search rules
 
 add-t : tie.Need-overflow_add-t
 add-t c = let s = c.before.before.before in
-    omega (arith, ap (λ (x : ℕ). get_or s.args.t_1.now (s.args.k * bins + x) 0) c.before.entry.ensures, s.requires.1.2)
+    omega (arith, ap (λ (x : ℕ). get_or s.args.t.now (s.args.k * bins + x) 0) c.before.entry.ensures, s.requires.1.2)
 
 mul-t-2 : tie.Need-offset_bounds-t-at-2
 mul-t-2 c = search rules
@@ -37,7 +37,7 @@ element-write-t c = search rules
 
 returns : tie.Need-returns
 returns c = let s = c.before.before.before in
-    ap (λ (x : ℕ). set s.args.t_1.now (s.args.k * bins + x) (get_or s.args.t_1.now (s.args.k * bins + x) 0 + s.args.one)) c.before.entry.ensures
+    ap (λ (x : ℕ). set s.args.t.now (s.args.k * bins + x) (get_or s.args.t.now (s.args.k * bins + x) 0 + s.args.one)) c.before.entry.ensures
 
 pub count_in_spec : {M : Type 1} → statement M
 count_in_spec =

@@ -27,22 +27,20 @@ returns-2 : tie.Need-returns-then-highest_between-ne0-2
 returns-2 c = λ e. clash (sym e)
 
 count-rows-requires : tie.Need-count_rows-requires
-count-rows-requires c κs = let s = c.before.before.before.before.before.before.before in (
+count-rows-requires c κs = (
   search rules,
-  ((λ k i lk li. omega (arith, s.requires.1.0.1.low k i lk li)), (few-none s.args.t.now s.requires.1.1.0, few-none s.args.v.now s.requires.1.1.1)),
+  ((λ k i lk li. omega (arith, c.requires.1.0.1.low k i lk li)), (few-none c.args.t.now c.requires.1.1.0, few-none c.args.v.now c.requires.1.1.1)),
 )
 
 count-rows-requires-2 : tie.Need-count_rows-requires-2
-count-rows-requires-2 c κs = let r = c.before.before in
-    let s = r.before.before.before.before.before.before.before.before in
-    let u = s.args.bank.now in
-    let f = s.args.first in (
+count-rows-requires-2 c κs = let u = c.args.bank.now in
+    let f = c.args.first in (
       search rules,
       (
-        (λ k i lk li. omega (arith, s.requires.1.0.2.low k i lk li)),
+        (λ k i lk li. omega (arith, c.requires.1.0.2.low k i lk li)),
         (
-          few-first s.args.filled f u s.args.t.now r.count_rows.new.0 (omega arith) (omega arith) s.requires.1.1.0 r.count_rows.ensures.0,
-          few-first s.args.filled (f + 4 * channel_len) u s.args.v.now r.count_rows.new.1.0 (omega arith) (omega arith) s.requires.1.1.1 r.count_rows.ensures.1,
+          few-first c.args.filled f u c.args.t.now c.count_rows.new.t (omega arith) (omega arith) c.requires.1.1.0 c.count_rows.ensures.0,
+          few-first c.args.filled (f + 4 * channel_len) u c.args.v.now c.count_rows.new.v (omega arith) (omega arith) c.requires.1.1.1 c.count_rows.ensures.1,
         ),
       ),
     )
@@ -66,25 +64,20 @@ four-borne-out-requires-2 : tie.Need-four_borne_out-behind-requires
 four-borne-out-requires-2 c κs = search rules
 
 returns-3 : tie.Need-returns
-returns-3 c = let q = c.before.before.before.before in
-    let r = q.before.before.before in
-    let z = r.before.before.before in
-    let y = z.before.before in
-    let s = y.before.before.before in
-    let u = s.args.bank.now in
-    let top = s.args.top in
-    let a = s.args.first in
-    let d = s.args.second in
-    let za : NoneAbove top a u = λ k b lk m lb. omega (arith, y.before.highest_between.ensures k (at_counts + b) lk (omega arith) (omega arith), y.if-highest_between-ne0.false) in
-    let zd : NoneAbove top d u = λ k b lk m lb. omega (arith, z.before.highest_between-2.ensures k (at_counts + b) lk (omega arith) (omega arith), z.if-highest_between-ne0-2.false) in
-    let by = counted s.args.filled top a d u (omega arith) (omega arith) s.requires.1.0.0 (omega arith) (omega arith) s.requires.1.0.1 s.requires.1.0.2 za zd
-    s.args.t.now r.count_rows.new.0 q.count_rows-2.new.0 s.requires.1.1.0 r.count_rows.ensures.0 q.count_rows-2.ensures.0
-    s.args.v.now r.count_rows.new.1.0 q.count_rows-2.new.1.0 s.requires.1.1.1 r.count_rows.ensures.1 q.count_rows-2.ensures.1 in
-    let x = c.before.before.four_borne_out-front in
+returns-3 c = let u = c.args.bank.now in
+    let top = c.args.top in
+    let a = c.args.first in
+    let d = c.args.second in
+    let za : NoneAbove top a u = λ k b lk m lb. omega (arith, c.highest_between.ensures k (at_counts + b) lk (omega arith) (omega arith), c.if-highest_between-ne0.false) in
+    let zd : NoneAbove top d u = λ k b lk m lb. omega (arith, c.highest_between-2.ensures k (at_counts + b) lk (omega arith) (omega arith), c.if-highest_between-ne0-2.false) in
+    let by = counted c.args.filled top a d u (omega arith) (omega arith) c.requires.1.0.0 (omega arith) (omega arith) c.requires.1.0.1 c.requires.1.0.2 za zd
+    c.args.t.now c.count_rows.new.t c.count_rows-2.new.t c.requires.1.1.0 c.count_rows.ensures.0 c.count_rows-2.ensures.0
+    c.args.v.now c.count_rows.new.v c.count_rows-2.new.v c.requires.1.1.1 c.count_rows.ensures.1 c.count_rows-2.ensures.1 in
+    let x = c.four_borne_out-front in
     let w = c.four_borne_out-behind in
     λ e.
     let o = by.sixteen (sym x.ensures.0 ∙ and_l x.result w.result e) (sym w.ensures.0 ∙ and_r x.result w.result e) in
-    (o.0, o.1, by.clear x.new.1.1.1.0 x.ensures.1, by.clear_behind w.new.1.1.1.0 w.ensures.1)
+    (o.0, o.1, by.clear x.new.t x.ensures.1, by.clear_behind w.new.t w.ensures.1)
 
 pub counts_borne_out_spec : {M : Type 1} → statement M
 counts_borne_out_spec =

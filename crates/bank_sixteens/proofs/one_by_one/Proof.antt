@@ -3,7 +3,6 @@ use mathlib.Core.Bool.{true}
 use Prim.Native.Nat.{ℕ, ◌≤◌, ◌<◌, ◌-◌, ◌+◌, ◌*◌}
 use native.Mathlib.Omega.{arith}
 use borrow.Author.Rules.{rules}
-use borrow.Author.Tests.{not-false}
 use Rattle.laws.specs.Lists.{part}
 use Rattle.laws.proofs.Lists.{width, length_part}
 use Rattle.laws.proofs.Tests.{clash}
@@ -63,7 +62,7 @@ loop-again : tie.Need-loop-k-preserved invariant-loop decreases-loop
 loop-again c = let l = c.before.before.before.before in
     let s = l.before.before in
     let a = s.args.from + channel_len * l.loop-k.k in
-    (omega arith, below_more (λ j. sound_channel (chan_of (chan_at s.args.from s.args.bank.now j)) ≡ true) l.loop-k.k l.loop-k.invariant.1 (ap (λ (w : ℕ). sound_channel (chan_of (part a w s.args.bank.now))) (sym (width a channel_len)) ∙ sym c.before.channel_sound.ensures ∙ not-false _ c.if-not-channel_sound.false))
+    (omega arith, below_more (λ j. sound_channel (chan_of (chan_at s.args.from s.args.bank.now j)) ≡ true) l.loop-k.k l.loop-k.invariant.1 (ap (λ (w : ℕ). sound_channel (chan_of (part a w s.args.bank.now))) (sym (width a channel_len)) ∙ sym c.before.channel_sound.ensures ∙ c.if-not-channel_sound.false))
 
 returns-2 : tie.Need-returns invariant-loop decreases-loop
 returns-2 c = λ e k h. c.before.loop-k.invariant.1 k (omega arith)

@@ -3,7 +3,6 @@ use Prim.Native.Nat.{◌+◌, ◌<◌, ◌≤◌}
 use native.Mathlib.Omega.{arith}
 use lib.ListN.{get_or}
 use borrow.Author.Rules.{rules}
-use borrow.Author.Tests.{not-false}
 use Rattle.laws.proofs.Tests.{clash, and_l, and_r}
 use Rattle.model.specs.Layout.{ring_len, at_filled}
 use Rattle.bank_sound.proofs.Checks.{fields-filled}
@@ -58,7 +57,7 @@ counts-borne-out-requires c κs = let a = c.before.before in
     let o = h.before.before.before.before in
     let s = o.before.before.before in
     let u = s.args.bank.now in
-    let f = o.at_once.ensures (not-false _ h.before.before.before.if-not-at_once.false) in
+    let f = o.at_once.ensures h.before.before.before.if-not-at_once.false in
     let n = get_or u (s.args.first + at_filled) 0 in
     let top = a.above.result in
     let x = h.higher-highest.result in

@@ -3,7 +3,6 @@ use mathlib.Core.Bool.{true}
 use Prim.Native.Nat.{ℕ, ◌≤◌, ◌<◌, ◌-◌}
 use native.Mathlib.Omega.{arith}
 use borrow.Author.Rules.{rules}
-use borrow.Author.Tests.{not-false}
 use Rattle.model.specs.Stores.{chan_of, sound_channel}
 use Rattle.bank_sixteens.specs.Rows.{chan_at, Clear}
 use Rattle.bank_sixteens.proofs.Rows.{clear-made, sixteen-more, last_more}
@@ -51,7 +50,7 @@ loop-less c = search rules
 loop-again : tie.Need-loop-k-preserved invariant-loop decreases-loop
 loop-again c = let l = c.before.before.before.before.before in
     let s = l.before.before in
-    let e = c.before.sixteen_sound.ensures (not-false _ c.if-not-sixteen_sound.false) in
+    let e = c.before.sixteen_sound.ensures c.if-not-sixteen_sound.false in
     (omega arith, sixteen-more s.args.from l.loop-k.k s.args.bank.now l.loop-k.invariant.1 e.0 e.1, e.2, e.3)
 
 add-if2 : tie.Need-overflow_add-k-2 invariant-loop decreases-loop
@@ -87,7 +86,7 @@ returns-3 c = let l = c.before.before.before.before.before.before in
 returns-4 : tie.Need-returns invariant-loop decreases-loop
 returns-4 c = let l = c.before.before.before.before.before.before in
     let s = l.before.before in
-    let e = c.before.sixteen_sound-2.ensures (not-false _ c.if-not-sixteen_sound-2.false) in
+    let e = c.before.sixteen_sound-2.ensures c.if-not-sixteen_sound-2.false in
     (omega arith, last_more s.args.from l.loop-k.k s.args.n s.args.bank.now (omega arith) (omega arith) l.loop-k.invariant.1 e.0 e.1)
 
 pub sound_sixteens_spec : {M : Type 1} → statement M
