@@ -1,7 +1,6 @@
 -- The first k channels are tested. Assumes nothing.
 use mathlib.Core.Path.{◌≡◌, sym, ap, subst, ◌∙◌}
 use mathlib.Core.Bool.{Bool}
-use mathlib.Core.Logic.{⊎_elim}
 use mathlib.Core.List.{List}
 use Prim.Native.Nat.{ℕ, ◌+◌, ◌-◌}
 use native.Mathlib.Omega.{arith}
@@ -16,6 +15,7 @@ use Rattle.window_rises.proofs.Marking.{marked-stays, marked-anew, marked-not}
 use borrow.Author.Rules.{rules}
 use Rattle.window_rises.proofs.mark_full.Statement.{statement}
 use Rattle.window_rises.proofs.mark_full.Tie as tie
+use Rattle.window_rises.proofs.mark_full.Lts.{then-rise-k-eq0+then-sums_rise, then-rise-k-eq0+else-sums_rise, else-rise-k-eq0}
 
 -- the mark of channel k
 abbrev mark_of : List Float → List Float → List Float → Float → List ℕ → ℕ → ℕ
@@ -61,17 +61,17 @@ loop-again c = let l = c.before.before.before in
     let q = ap (t k) (get_d_any a.thresholds.now k nan f0 (omega arith)) in
     let same : get_or a.rise.now k 0 ≡ f k → Filled a.rise.now f (k + 1) l.loop-k.rise =
     stays a.rise.now f k l.loop-k.rise 0 l.loop-k.invariant (omega arith) in
-    ⊎_elim
-    (λ w.
-    subst (Filled a.rise.now f (k + 1)) (sym w.4)
-    (turns a.rise.now f k l.loop-k.rise 1 l.loop-k.invariant (omega arith)
-    (ap one (sym w.3.taken ∙ w.2.ensures ∙ q) ∙ marked-anew (get_or a.rise.now k 0) _ (sym e ∙ w.0.taken))))
-    (⊎_elim
-    (λ w.
-    subst (Filled a.rise.now f (k + 1)) (sym w.4)
-    (same (marked-not (get_or a.rise.now k 0) _ (sym q ∙ sym w.2.ensures ∙ w.3.left))))
-    (λ w. subst (Filled a.rise.now f (k + 1)) (sym w.1) (same (marked-stays (get_or a.rise.now k 0) _ (λ z. w.0.left (e ∙ z))))))
-    c.if-rise-k-eq0.branch
+    elim c.if-rise-k-eq0.branch [
+      | then-rise-k-eq0+then-sums_rise w ↦
+          subst (Filled a.rise.now f (k + 1)) (sym w.rise-is)
+          (turns a.rise.now f k l.loop-k.rise 1 l.loop-k.invariant (omega arith)
+          (ap one (sym w.if-sums_rise.true ∙ w.sums_rise.ensures ∙ q) ∙ marked-anew (get_or a.rise.now k 0) _ (sym e ∙ w.if-rise-k-eq0.true)))
+      | then-rise-k-eq0+else-sums_rise w ↦
+          subst (Filled a.rise.now f (k + 1)) (sym w.rise-is)
+          (same (marked-not (get_or a.rise.now k 0) _ (sym q ∙ sym w.sums_rise.ensures ∙ w.if-sums_rise.false)))
+      | else-rise-k-eq0 w ↦
+          subst (Filled a.rise.now f (k + 1)) (sym w.rise-is) (same (marked-stays (get_or a.rise.now k 0) _ (λ z. w.if-rise-k-eq0.false (e ∙ z))))
+    ]
 
 same_length : tie.Need-shape_of-rise invariant-loop decreases-loop
 same_length c = search rules

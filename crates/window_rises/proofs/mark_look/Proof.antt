@@ -34,8 +34,8 @@ mul-if1 c = search rules
 
 returns : tie.Need-returns-then-filled-m
 returns c = let a = c.before.before.before.before.args in
-    let n = length a.rise-1.now in
-    none-marked a.rise-1.now _ (λ k. none-rises n (get_or a.thresholds.now k f0) k (looks_in a.look.now a.c n) c.if-filled-m.true)
+    let n = length a.rise.now in
+    none-marked a.rise.now _ (λ k. none-rises n (get_or a.thresholds.now k f0) k (looks_in a.look.now a.c n) c.if-filled-m.true)
 
 mul-recent : tie.Need-overflow_mul-recent
 mul-recent c = search rules
@@ -87,12 +87,12 @@ returns-2 : tie.Need-returns
 returns-2 c = let q = c.before.before in
     let e = q.before.before.before.before.before in
     let a = e.before.before.before.before.args in
-    let n = length a.rise-1.now in
+    let n = length a.rise.now in
     let A : ℕ = 2 * a.c.m * n in
     (rw (width A n, width (A + n) n) at q.mark_full.ensures)
     ∙ tab-ext n _ _
     (λ k _.
-    ap (marked (get_or a.rise-1.now k 0))
+    ap (marked (get_or a.rise.now k 0))
     (full-rises n (get_or a.thresholds.now k f0) k (looks_in a.look.now a.c n) e.if-filled-m.false (length_part A n a.look.now (omega arith))))
 
 pub mark_look_spec : {M : Type 1} → statement M

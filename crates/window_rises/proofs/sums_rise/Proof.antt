@@ -33,7 +33,7 @@ shared-slice-read-if1 c = search rules
 
 returns : tie.Need-returns-then-not-recent-k
 returns c = let s = c.before.before.before.before in
-    first-fails _ _ _ (recent-is s false (not-true (R s) c.if-not-recent-k.true))
+    first-fails _ _ _ (recent-is s false (not-true (R s) (ap not c.if-not-recent-k.true)))
 
 mul-if2 : tie.Need-offset_bounds-previous-k
 mul-if2 c = search rules
@@ -44,7 +44,7 @@ shared-slice-read-if2 c = search rules
 returns-2 : tie.Need-returns-then-not-previous-k
 returns-2 c = let e = c.before.before in
     let s = e.before.before.before.before in
-    second-fails _ _ _ (recent-is s true (not-false (R s) e.if-not-recent-k.false)) (previous-is s false (not-true (P s) c.if-not-previous-k.true))
+    second-fails _ _ _ (recent-is s true (not-false (R s) (ap not e.if-not-recent-k.false))) (previous-is s false (not-true (P s) (ap not c.if-not-previous-k.true)))
 
 beside-stronger-requires : tie.Need-beside_stronger-requires
 beside-stronger-requires c κs = search rules
@@ -53,7 +53,7 @@ returns-3 : tie.Need-returns
 returns-3 c = let f = c.before in
     let e = f.before.before in
     let s = e.before.before.before.before in
-    third-says _ _ _ _ (recent-is s true (not-false (R s) e.if-not-recent-k.false)) (previous-is s true (not-false (P s) f.if-not-previous-k.false))
+    third-says _ _ _ _ (recent-is s true (not-false (R s) (ap not e.if-not-recent-k.false))) (previous-is s true (not-false (P s) (ap not f.if-not-previous-k.false)))
     (ap not c.beside_stronger.ensures)
 
 pub sums_rise_spec : {M : Type 1} → statement M
