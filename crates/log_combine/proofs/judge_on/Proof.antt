@@ -16,52 +16,52 @@ use borrow.Author.Rules.{rules}
 use Rattle.log_combine.proofs.judge_on.Statement.{statement}
 use Rattle.log_combine.proofs.judge_on.Tie as tie
 
-abbrev invariant-loop : tie.invariant-loop
+abbrev invariant-loop : tie.invariant-loop-d
 invariant-loop first second room d₀ p₀ e₀ q₀ db₀ power₀ n x₀ y₀ len₀ hops₀ d p e q db power x y len hops =
     (length d ≡ length d₀) × ((length p ≡ length p₀) × ((length e ≡ length e₀) × ((length q ≡ length q₀) × ((length db ≡ length db₀) × ((length power ≡ length power₀)
     × ((n ≡ low_two first 0) × ((len ≤ room) × Judging first second x y len hops d p e q db power)))))))
 
-abbrev decreases-loop : tie.decreases-loop
+abbrev decreases-loop : tie.decreases-loop-d
 decreases-loop first second room d₀ p₀ e₀ q₀ db₀ power₀ n x₀ y₀ len₀ hops₀ d p e q db power x y len hops = length first - x
 
-abbrev start : tie.After-shared-slice-known2 invariant-loop decreases-loop → tie.Start invariant-loop decreases-loop
+abbrev start : tie.After-shared_slice_known-2-1 invariant-loop decreases-loop → tie.Start invariant-loop decreases-loop
 start k = k.before.before
 
 -- both logs are bytes
-bytes-a : (k : tie.After-shared-slice-known2 invariant-loop decreases-loop) → Below 256 (start k).args.first.now
-bytes-a k i h = omega (arith, k.before.shared-slice-known.given i)
+bytes-a : (k : tie.After-shared_slice_known-2-1 invariant-loop decreases-loop) → Below 256 (start k).args.first.now
+bytes-a k i h = omega (arith, k.before.shared_slice_known-1.given i)
 
-bytes-b : (k : tie.After-shared-slice-known2 invariant-loop decreases-loop) → Below 256 (start k).args.second.now
-bytes-b k i h = omega (arith, k.shared-slice-known2.given i)
+bytes-b : (k : tie.After-shared_slice_known-2-1 invariant-loop decreases-loop) → Below 256 (start k).args.second.now
+bytes-b k i h = omega (arith, k.shared_slice_known-2-1.given i)
 
-abbrev known : tie.At-loop invariant-loop decreases-loop → tie.After-shared-slice-known2 invariant-loop decreases-loop
+abbrev known : tie.At-loop-d invariant-loop decreases-loop → tie.After-shared_slice_known-2-1 invariant-loop decreases-loop
 known l = l.before.before.before.before.before.before.before
 
 -- the slices are as long as the pass needs them
-abbrev n : tie.At-loop invariant-loop decreases-loop → ℕ
+abbrev n : tie.At-loop-d invariant-loop decreases-loop → ℕ
 n l = low_two (start (known l)).args.first.now 0
 
-long : (l : tie.At-loop invariant-loop decreases-loop) → (length l.loop.d ≡ n l) × ((length l.loop.p ≡ n l) × ((length l.loop.e ≡ n l) × (length l.loop.q ≡ n l)))
+long : (l : tie.At-loop-d invariant-loop decreases-loop) → (length l.loop-d.d-1 ≡ n l) × ((length l.loop-d.p-1 ≡ n l) × ((length l.loop-d.e-1 ≡ n l) × (length l.loop-d.q-1 ≡ n l)))
 long l =
     let a = (start (known l)).args in
-    let s = (start (known l)).pre.lent in
-    let i = l.loop.invariant in
-    (i.0 ∙ zeros-are (n l) a.d.now s.d_zero, (i.1.0 ∙ zeros-are (n l) a.p.now s.p_zero, (i.1.1.0 ∙ zeros-are (n l) a.e.now s.e_zero, i.1.1.1.0 ∙ zeros-are (n l) a.q.now s.q_zero)))
+    let s = (start (known l)).requires.lent in
+    let i = l.loop-d.invariant in
+    (i.0 ∙ zeros-are (n l) a.d-1.now s.d_zero, (i.1.0 ∙ zeros-are (n l) a.p-1.now s.p_zero, (i.1.1.0 ∙ zeros-are (n l) a.e-1.now s.e_zero, i.1.1.1.0 ∙ zeros-are (n l) a.q-1.now s.q_zero)))
 
-two-long : (l : tie.At-loop invariant-loop decreases-loop) → (length l.loop.db ≡ n l + n l) × (length l.loop.power ≡ n l + n l)
+two-long : (l : tie.At-loop-d invariant-loop decreases-loop) → (length l.loop-d.db-1 ≡ n l + n l) × (length l.loop-d.power-1 ≡ n l + n l)
 two-long l =
     let a = (start (known l)).args in
-    let s = (start (known l)).pre.lent in
-    let i = l.loop.invariant in
-    (i.1.1.1.1.0 ∙ zeros-are (n l + n l) a.db.now s.db_zero, i.1.1.1.1.1.0 ∙ zeros-are (n l + n l) a.power.now s.power_zero)
+    let s = (start (known l)).requires.lent in
+    let i = l.loop-d.invariant in
+    (i.1.1.1.1.0 ∙ zeros-are (n l + n l) a.db-1.now s.db_zero, i.1.1.1.1.1.0 ∙ zeros-are (n l + n l) a.power-1.now s.power_zero)
 
-few : (l : tie.At-loop invariant-loop decreases-loop) → n l ≤ 512
+few : (l : tie.At-loop-d invariant-loop decreases-loop) → n l ≤ 512
 few l =
     let k = known l in
     let a = (start k).args in
-    (started-a a.first.now a.second.now (bytes-a k) (bytes-b k) (start k).pre.starts_a (start k).pre.starts_b).most
+    (started-a a.first.now a.second.now (bytes-a k) (bytes-b k) (start k).requires.starts_a (start k).requires.starts_b).most
 
-loop-holds : tie.Need-loop-init invariant-loop decreases-loop
+loop-holds : tie.Need-loop-d-init invariant-loop decreases-loop
 loop-holds c =
     let k = c.before.before.before.before.before.before in
     let s = start k in
@@ -78,10 +78,10 @@ loop-holds c =
               (
                 refl,
                 (
-                  zeros-are (low_two a.first.now 0) a.d.now s.pre.lent.d_zero,
+                  zeros-are (low_two a.first.now 0) a.d-1.now s.requires.lent.d_zero,
                   (
-                    s.pre.header,
-                    judging-begins a.first.now a.second.now (bytes-a k) (bytes-b k) s.pre.starts_a s.pre.starts_b a.d.now a.p.now a.e.now a.q.now a.db.now a.power.now s.pre.lent,
+                    s.requires.header,
+                    judging-begins a.first.now a.second.now (bytes-a k) (bytes-b k) s.requires.starts_a s.requires.starts_b a.d-1.now a.p-1.now a.e-1.now a.q-1.now a.db-1.now a.power-1.now s.requires.lent,
                   ),
                 ),
               ),
@@ -91,10 +91,10 @@ loop-holds c =
       ),
     )
 
-is-before-requires : tie.Need-is-before-requires invariant-loop decreases-loop
+is-before-requires : tie.Need-is_before-requires invariant-loop decreases-loop
 is-before-requires c κs = search rules
 
-turn-requires : tie.Need-turn-requires invariant-loop decreases-loop
+turn-requires : tie.Need-turn-next-requires invariant-loop decreases-loop
 turn-requires c κs =
     let l = c.before.before.before.before.before.before.before.before in
     let o = long l in (
@@ -102,124 +102,124 @@ turn-requires c κs =
       (omega (arith, o.0, (two-long l).0), omega (arith, o.0, (two-long l).1)),
     )
 
-abbrev before_of : tie.After-turn invariant-loop decreases-loop → tie.Then1 invariant-loop decreases-loop
+abbrev before_of : tie.After-turn-next invariant-loop decreases-loop → tie.In-loop-d invariant-loop decreases-loop
 before_of t = t.before.before.before.before.before.before.before
 
-abbrev loop-of : tie.After-turn invariant-loop decreases-loop → tie.At-loop invariant-loop decreases-loop
+abbrev loop-of : tie.After-turn-next invariant-loop decreases-loop → tie.At-loop-d invariant-loop decreases-loop
 loop-of t = (before_of t).before.before
 
 -- both logs stand before their ends
-both-before : (t : tie.After-turn invariant-loop decreases-loop) → (let l = loop-of t in let a = (start (known l)).args in (ltb l.loop.x (length a.first.now) && ltb l.loop.y (length a.second.now)) ≡ true)
-both-before t = sym (before_of t).before.is-before.ensures ∙ (before_of t).if1.true
+both-before : (t : tie.After-turn-next invariant-loop decreases-loop) → (let l = loop-of t in let a = (start (known l)).args in (ltb l.loop-d.x (length a.first.now) && ltb l.loop-d.y (length a.second.now)) ≡ true)
+both-before t = sym (before_of t).before.is_before.ensures ∙ (before_of t).loop-d-test.true
 
-hop-len-requires : tie.Need-hop-len-requires invariant-loop decreases-loop
+hop-len-requires : tie.Need-hop_len-more-requires invariant-loop decreases-loop
 hop-len-requires c κs =
     let t = c.before.before.before.before.before.before.before.before.before.before.before.before.before.before in
     let l = loop-of t in
-    let i = l.loop.inv in
-    let z = t.turn.auto.1.1.1.1.1.1.1.1 in
+    let i = l.loop-d.inv in
+    let z = t.turn-next.auto.1.1.1.1.1.1.1.1 in
     (omega (arith, few l, i.1.1.1.1.1.1.0), (omega (arith, z.0, (two-long l).0, i.1.1.1.1.1.1.0), omega (arith, z.1.0, (two-long l).1, i.1.1.1.1.1.1.0)))
 
-abbrev turned : tie.After-hop-len invariant-loop decreases-loop → tie.After-turn invariant-loop decreases-loop
+abbrev turned : tie.After-hop_len-more invariant-loop decreases-loop → tie.After-turn-next invariant-loop decreases-loop
 turned c = c.before.before.before.before.before.before.before.before.before.before.before.before.before.before.before
 
-more-is : (c : tie.After-hop-len invariant-loop decreases-loop) → (let t = turned c in let m = n (loop-of t) in
-    c.hop-len.result ≡ width m + 12 * tally m (λ k. changed m t.turn.last.1.1.1.1.1.1.1.1.0 t.turn.last.1.1.1.1.1.1.1.1.1.0 (m + k)))
+more-is : (c : tie.After-hop_len-more invariant-loop decreases-loop) → (let t = turned c in let m = n (loop-of t) in
+    c.hop_len-more.result ≡ width m + 12 * tally m (λ k. changed m t.turn-next.last.1.1.1.1.1.1.1.1.0 t.turn-next.last.1.1.1.1.1.1.1.1.1.0 (m + k)))
 more-is c =
     let t = turned c in
-    c.hop-len.ensures ∙ ap (λ (m : ℕ). width m + 12 * tally m (λ k. changed m t.turn.last.1.1.1.1.1.1.1.1.0 t.turn.last.1.1.1.1.1.1.1.1.1.0 (m + k))) (loop-of t).loop.inv.1.1.1.1.1.1.0
+    c.hop_len-more.ensures ∙ ap (λ (m : ℕ). width m + 12 * tally m (λ k. changed m t.turn-next.last.1.1.1.1.1.1.1.1.0 t.turn-next.last.1.1.1.1.1.1.1.1.1.0 (m + k))) (loop-of t).loop-d.inv.1.1.1.1.1.1.0
 
-sub-goes-on : tie.Need-overflow-sub-goes-on invariant-loop decreases-loop
-sub-goes-on c = (loop-of (turned c)).loop.inv.1.1.1.1.1.1.1.0
+sub-goes-on : tie.Need-overflow_sub-room invariant-loop decreases-loop
+sub-goes-on c = (loop-of (turned c)).loop-d.inv.1.1.1.1.1.1.1.0
 
-goes-on-requires : tie.Need-goes-on-requires invariant-loop decreases-loop
+goes-on-requires : tie.Need-goes_on-requires invariant-loop decreases-loop
 goes-on-requires c κs = search rules
 
-same_length : tie.Need-same-length invariant-loop decreases-loop
+same_length : tie.Need-shape_of-d-then-not-goes_on invariant-loop decreases-loop
 same_length c =
     let t = turned c.before.before in
-    t.turn.kept.1.1.1.1.0 ∙ (loop-of t).loop.inv.0
+    t.turn-next.kept.1.1.1.1.0 ∙ (loop-of t).loop-d.inv.0
 
-same-length-2 : tie.Need-same-length-2 invariant-loop decreases-loop
+same-length-2 : tie.Need-shape_of-p-then-not-goes_on invariant-loop decreases-loop
 same-length-2 c =
     let t = turned c.before.before in
-    t.turn.kept.1.1.1.1.1.0 ∙ (loop-of t).loop.inv.1.0
+    t.turn-next.kept.1.1.1.1.1.0 ∙ (loop-of t).loop-d.inv.1.0
 
-same-length-3 : tie.Need-same-length-3 invariant-loop decreases-loop
+same-length-3 : tie.Need-shape_of-e-then-not-goes_on invariant-loop decreases-loop
 same-length-3 c =
     let t = turned c.before.before in
-    t.turn.kept.1.1.1.1.1.1.0 ∙ (loop-of t).loop.inv.1.1.0
+    t.turn-next.kept.1.1.1.1.1.1.0 ∙ (loop-of t).loop-d.inv.1.1.0
 
-same-length-4 : tie.Need-same-length-4 invariant-loop decreases-loop
+same-length-4 : tie.Need-shape_of-q-then-not-goes_on invariant-loop decreases-loop
 same-length-4 c =
     let t = turned c.before.before in
-    t.turn.kept.1.1.1.1.1.1.1.0 ∙ (loop-of t).loop.inv.1.1.1.0
+    t.turn-next.kept.1.1.1.1.1.1.1.0 ∙ (loop-of t).loop-d.inv.1.1.1.0
 
-same-length-5 : tie.Need-same-length-5 invariant-loop decreases-loop
+same-length-5 : tie.Need-shape_of-db-then-not-goes_on invariant-loop decreases-loop
 same-length-5 c =
     let t = turned c.before.before in
-    t.turn.kept.1.1.1.1.1.1.1.1.0 ∙ (loop-of t).loop.inv.1.1.1.1.0
+    t.turn-next.kept.1.1.1.1.1.1.1.1.0 ∙ (loop-of t).loop-d.inv.1.1.1.1.0
 
-same-length-6 : tie.Need-same-length-6 invariant-loop decreases-loop
+same-length-6 : tie.Need-shape_of-power-then-not-goes_on invariant-loop decreases-loop
 same-length-6 c =
     let t = turned c.before.before in
-    t.turn.kept.1.1.1.1.1.1.1.1.1.0 ∙ (loop-of t).loop.inv.1.1.1.1.1.0
+    t.turn-next.kept.1.1.1.1.1.1.1.1.1.0 ∙ (loop-of t).loop-d.inv.1.1.1.1.1.0
 
-returns : tie.Need-returns invariant-loop decreases-loop
+returns : tie.Need-returns-then-not-goes_on invariant-loop decreases-loop
 returns c =
     let h = c.before.before in
     let t = turned h in
     let l = loop-of t in
     let k = known l in
     let a = (start k).args in
-    let o = l.loop in
-    let m = t.turn.last.1.1.1.1 in
-    let u = t.turn.ensures in
-    judging-stops a.first.now a.second.now (bytes-a k) (bytes-b k) (start k).pre.starts_a (start k).pre.starts_b o.x o.y o.len o.hops o.d o.p o.e o.q o.db o.power o.inv.1.1.1.1.1.1.1.1
-    (both-before t) t.turn.result.first t.turn.result.second m.0 m.1.0 m.1.1.0 m.1.1.1.0 m.1.1.1.1.0 m.1.1.1.1.1.0 u.0 u.1.0 u.1.1.0 u.1.1.1.0 u.1.1.1.1 h.hop-len.result (more-is h)
-    a.room o.inv.1.1.1.1.1.1.1.0 (sym c.before.goes_on.ensures ∙ not-true _ c.if2.true)
+    let o = l.loop-d in
+    let m = t.turn-next.last.1.1.1.1 in
+    let u = t.turn-next.ensures in
+    judging-stops a.first.now a.second.now (bytes-a k) (bytes-b k) (start k).requires.starts_a (start k).requires.starts_b o.x o.y o.len o.hops o.d-1 o.p-1 o.e-1 o.q-1 o.db-1 o.power-1 o.inv.1.1.1.1.1.1.1.1
+    (both-before t) t.turn-next.result.first t.turn-next.result.second m.0 m.1.0 m.1.1.0 m.1.1.1.0 m.1.1.1.1.0 m.1.1.1.1.1.0 u.0 u.1.0 u.1.1.0 u.1.1.1.0 u.1.1.1.1 h.hop_len-more.result (more-is h)
+    a.room o.inv.1.1.1.1.1.1.1.0 (sym c.before.goes_on.ensures ∙ not-true _ c.if-not-goes_on.true)
 
 -- the hop was taken on
-goes : (c : tie.Else2 invariant-loop decreases-loop) → (let h = c.before.before in let t = turned h in let l = loop-of t in
-    (ltb l.loop.x t.turn.result.first && (ltb l.loop.y t.turn.result.second && leb h.hop-len.result ((start (known l)).args.room - l.loop.len))) ≡ true)
-goes c = sym c.before.goes_on.ensures ∙ not-false _ c.if2.false
+goes : (c : tie.Else-not-goes_on invariant-loop decreases-loop) → (let h = c.before.before in let t = turned h in let l = loop-of t in
+    (ltb l.loop-d.x t.turn-next.result.first && (ltb l.loop-d.y t.turn-next.result.second && leb h.hop_len-more.result ((start (known l)).args.room - l.loop-d.len))) ≡ true)
+goes c = sym c.before.goes_on.ensures ∙ not-false _ c.if-not-goes_on.false
 
-moved : (c : tie.Else2 invariant-loop decreases-loop) → (let h = c.before.before in let t = turned h in let l = loop-of t in
-    (l.loop.x < t.turn.result.first) × ((l.loop.y < t.turn.result.second) × (h.hop-len.result ≤ (start (known l)).args.room - l.loop.len)))
+moved : (c : tie.Else-not-goes_on invariant-loop decreases-loop) → (let h = c.before.before in let t = turned h in let l = loop-of t in
+    (l.loop-d.x < t.turn-next.result.first) × ((l.loop-d.y < t.turn-next.result.second) × (h.hop_len-more.result ≤ (start (known l)).args.room - l.loop-d.len)))
 moved c =
     let h = c.before.before in
     let t = turned h in
     let l = loop-of t in
-    goes-tells l.loop.x t.turn.result.first l.loop.y t.turn.result.second h.hop-len.result ((start (known l)).args.room - l.loop.len) (goes c)
+    goes-tells l.loop-d.x t.turn-next.result.first l.loop-d.y t.turn-next.result.second h.hop_len-more.result ((start (known l)).args.room - l.loop-d.len) (goes c)
 
-add-len : tie.Need-overflow-add-len invariant-loop decreases-loop
+add-len : tie.Need-overflow_add-len invariant-loop decreases-loop
 add-len c =
     let l = loop-of (turned c.before.before) in
-    omega (arith, (moved c).1.1, l.loop.inv.1.1.1.1.1.1.1.0, (start (known l)).fits.room)
+    omega (arith, (moved c).1.1, l.loop-d.inv.1.1.1.1.1.1.1.0, (start (known l)).fits.room)
 
-add-hops : tie.Need-overflow-add-hops invariant-loop decreases-loop
+add-hops : tie.Need-overflow_add-hops invariant-loop decreases-loop
 add-hops c =
     let l = loop-of (turned c.before.before) in
-    omega (arith, l.loop.inv.1.1.1.1.1.1.1.1.count_a.few, l.loop.inv.1.1.1.1.1.1.1.1.to_a)
+    omega (arith, l.loop-d.inv.1.1.1.1.1.1.1.1.count_a.few, l.loop-d.inv.1.1.1.1.1.1.1.1.to_a)
 
-loop-less : tie.Need-loop-smaller invariant-loop decreases-loop
+loop-less : tie.Need-loop-d-smaller invariant-loop decreases-loop
 loop-less c =
     let t = turned c.before.before in
     let l = loop-of t in
     let a = (start (known l)).args in
-    omega (arith, (moved c).0, (before-tells l.loop.x (length a.first.now) l.loop.y (length a.second.now) (both-before t)).0)
+    omega (arith, (moved c).0, (before-tells l.loop-d.x (length a.first.now) l.loop-d.y (length a.second.now) (both-before t)).0)
 
-loop-again : tie.Need-loop-preserved invariant-loop decreases-loop
+loop-again : tie.Need-loop-d-preserved invariant-loop decreases-loop
 loop-again c =
     let h = c.before.before in
     let t = turned h in
     let l = loop-of t in
     let k = known l in
     let a = (start k).args in
-    let o = l.loop in
-    let m = t.turn.last.1.1.1.1 in
-    let u = t.turn.ensures in
-    let z = t.turn.kept.1.1.1.1 in (
+    let o = l.loop-d in
+    let m = t.turn-next.last.1.1.1.1 in
+    let u = t.turn-next.ensures in
+    let z = t.turn-next.kept.1.1.1.1 in (
       z.0 ∙ o.inv.0,
       (
         z.1.0 ∙ o.inv.1.0,
@@ -235,8 +235,8 @@ loop-again c =
                   o.inv.1.1.1.1.1.1.0,
                   (
                     omega (arith, (moved c).1.1, o.inv.1.1.1.1.1.1.1.0),
-                    judging-next a.first.now a.second.now (bytes-a k) (bytes-b k) (start k).pre.starts_a (start k).pre.starts_b o.x o.y o.len o.hops o.d o.p o.e o.q o.db o.power o.inv.1.1.1.1.1.1.1.1
-                        (both-before t) t.turn.result.first t.turn.result.second m.0 m.1.0 m.1.1.0 m.1.1.1.0 m.1.1.1.1.0 m.1.1.1.1.1.0 u.0 u.1.0 u.1.1.0 u.1.1.1.0 u.1.1.1.1 h.hop-len.result (more-is h)
+                    judging-next a.first.now a.second.now (bytes-a k) (bytes-b k) (start k).requires.starts_a (start k).requires.starts_b o.x o.y o.len o.hops o.d-1 o.p-1 o.e-1 o.q-1 o.db-1 o.power-1 o.inv.1.1.1.1.1.1.1.1
+                        (both-before t) t.turn-next.result.first t.turn-next.result.second m.0 m.1.0 m.1.1.0 m.1.1.1.0 m.1.1.1.1.0 m.1.1.1.1.1.0 u.0 u.1.0 u.1.1.0 u.1.1.1.0 u.1.1.1.1 h.hop_len-more.result (more-is h)
                         (a.room - o.len) (goes c),
                   ),
                 ),
@@ -247,40 +247,40 @@ loop-again c =
       ),
     )
 
-fit-at-requires : tie.Need-fit-at-requires invariant-loop decreases-loop
+fit-at-requires : tie.Need-fit_at-requires invariant-loop decreases-loop
 fit-at-requires c κs = search rules
 
-same-length-7 : tie.Need-same-length-7 invariant-loop decreases-loop
-same-length-7 c = c.before.before.before.loop.invariant.0
+same-length-7 : tie.Need-shape_of-d invariant-loop decreases-loop
+same-length-7 c = c.before.before.before.loop-d.invariant.0
 
-same-length-8 : tie.Need-same-length-8 invariant-loop decreases-loop
-same-length-8 c = c.before.before.before.loop.invariant.1.0
+same-length-8 : tie.Need-shape_of-p invariant-loop decreases-loop
+same-length-8 c = c.before.before.before.loop-d.invariant.1.0
 
-same-length-9 : tie.Need-same-length-9 invariant-loop decreases-loop
-same-length-9 c = c.before.before.before.loop.invariant.1.1.0
+same-length-9 : tie.Need-shape_of-e invariant-loop decreases-loop
+same-length-9 c = c.before.before.before.loop-d.invariant.1.1.0
 
-same-length-10 : tie.Need-same-length-10 invariant-loop decreases-loop
-same-length-10 c = c.before.before.before.loop.invariant.1.1.1.0
+same-length-10 : tie.Need-shape_of-q invariant-loop decreases-loop
+same-length-10 c = c.before.before.before.loop-d.invariant.1.1.1.0
 
-same-length-11 : tie.Need-same-length-11 invariant-loop decreases-loop
-same-length-11 c = c.before.before.before.loop.invariant.1.1.1.1.0
+same-length-11 : tie.Need-shape_of-db invariant-loop decreases-loop
+same-length-11 c = c.before.before.before.loop-d.invariant.1.1.1.1.0
 
-same-length-12 : tie.Need-same-length-12 invariant-loop decreases-loop
-same-length-12 c = c.before.before.before.loop.invariant.1.1.1.1.1.0
+same-length-12 : tie.Need-shape_of-power invariant-loop decreases-loop
+same-length-12 c = c.before.before.before.loop-d.invariant.1.1.1.1.1.0
 
-returns-2 : tie.Need-returns-2 invariant-loop decreases-loop
+returns-2 : tie.Need-returns invariant-loop decreases-loop
 returns-2 c =
     let l = c.before.before.before in
     let k = known l in
     let a = (start k).args in
-    let o = l.loop in
+    let o = l.loop-d in
     let s = long l in
-    judging-ends a.first.now a.second.now (bytes-a k) (bytes-b k) (start k).pre.starts_a (start k).pre.starts_b o.x o.y o.len o.hops o.d o.p o.e o.q o.db o.power o.invariant.1.1.1.1.1.1.1.1
+    judging-ends a.first.now a.second.now (bytes-a k) (bytes-b k) (start k).requires.starts_a (start k).requires.starts_b o.x o.y o.len o.hops o.d-1 o.p-1 o.e-1 o.q-1 o.db-1 o.power-1 o.invariant.1.1.1.1.1.1.1.1
     a.room o.invariant.1.1.1.1.1.1.1.0 s.0 s.1.0 s.1.1.0 s.1.1.1
-    (sym c.before.before.is-before.ensures ∙ c.before.if1.false) c.fit_at.result c.fit_at.ensures
+    (sym c.before.before.is_before.ensures ∙ c.before.loop-d-test.false) c.fit_at.result c.fit_at.ensures
 
-pub judge-on-spec : {M : Type 1} → statement M
-judge-on-spec =
+pub judge_on_spec : {M : Type 1} → statement M
+judge_on_spec =
     tie.close
     (tie.spec
     invariant-loop

@@ -5,35 +5,35 @@ use borrow.Author.Rules.{rules}
 use Rattle.log_combine.proofs.no_of.Statement.{statement}
 use Rattle.log_combine.proofs.no_of.Tie as tie
 
-enum-known-one : tie.Need-enum-known-one
+enum-known-one : tie.Need-enum_known-one
 enum-known-one c = search rules
 
-enum-known-two : tie.Need-enum-known-two
+enum-known-two : tie.Need-enum_known-two
 enum-known-two c = search rules
 
-alike-no-requires : tie.Need-alike-no-requires
+alike-no-requires : tie.Need-alike_no-requires
 alike-no-requires c κs = search rules
 
-enum-known-two-2 : tie.Need-enum-known-two-2
+enum-known-two-2 : tie.Need-enum_known-two-in-Count
 enum-known-two-2 c = search rules
 
-enum-known-one-2 : tie.Need-enum-known-one-2
+enum-known-one-2 : tie.Need-enum_known-one-in-Refused-one
 enum-known-one-2 c = search rules
 
-returns : tie.Need-returns
+returns : tie.Need-returns-in-Count-two
 returns c =
     let y = c.before.before in
     let x = y.before.before.before in
-    c.alike-no.ensures ∙ sym (ap₂ (λ (one two : HopCount). no_of one two x.before.before.args.unequal) x.one.given.1 y.two.given.1)
+    c.alike_no.ensures ∙ sym (ap₂ (λ (one two : HopCount). no_of one two x.before.before.args.unequal) x.one-1.given.1 y.two-1.given.1)
 
-returns-2 : tie.Need-returns-2
+returns-2 : tie.Need-returns-in-Refused-two
 returns-2 c = search rules
 
-returns-3 : tie.Need-returns-3
+returns-3 : tie.Need-returns-in-Refused
 returns-3 c = search rules
 
-pub no-of-spec : {M : Type 1} → statement M
-no-of-spec =
+pub no_of_spec : {M : Type 1} → statement M
+no_of_spec =
     tie.close
     (tie.spec
     enum-known-one

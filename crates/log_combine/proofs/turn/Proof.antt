@@ -15,16 +15,16 @@ use borrow.Author.Rules.{rules}
 use Rattle.log_combine.proofs.turn.Statement.{statement}
 use Rattle.log_combine.proofs.turn.Tie as tie
 
-abbrev start : tie.After-step-back → tie.Start
+abbrev start : tie.After-step_back → tie.Start
 start h = h.before.before.before.before.before.before.before.before.before.before.before
 
-step-back-requires : tie.Need-step-back-requires
+step-back-requires : tie.Need-step_back-requires
 step-back-requires c κs = search rules
 
-log-read-requires : tie.Need-log-read-requires
+log-read-requires : tie.Need-log_read-one-requires
 log-read-requires c κs = search rules
 
-log-read-requires-2 : tie.Need-log-read-requires-2
+log-read-requires-2 : tie.Need-log_read-two-requires
 log-read-requires-2 c κs = search rules
 
 choose-requires : tie.Need-choose-requires
@@ -33,39 +33,39 @@ choose-requires c κs =
     let x = y.before.before.before.before.before.before.before in
     let h = x.before.before.before.before.before.before.before in
     let s = start h in
-    let z = s.pre.0 in
-    let one = x.log_read.auto.1.1 in
-    let two = y.log-read2.auto.1.1 in (
+    let z = s.requires.0 in
+    let one = x.log_read-one.auto.1.1 in
+    let two = y.log_read-two.auto.1.1 in (
       record {
         p_long = omega (arith, one.0, one.1.0, two.1.0, z.p_long, z.q_long);
         e_long = omega (arith, one.0, two.0, z.e_long);
         q_long = omega (arith, one.0, one.1.0, two.1.0, z.p_long, z.q_long);
       },
-      (omega (arith, one.0, s.pre.1.0, h.step_back.auto.1.0), omega (arith, one.0, s.pre.1.1, h.step_back.auto.1.1.0)),
+      (omega (arith, one.0, s.requires.1.0, h.step_back.auto.1.0), omega (arith, one.0, s.requires.1.1, h.step_back.auto.1.1.0)),
     )
 
-place-after-requires : tie.Need-place-after-requires
+place-after-requires : tie.Need-place_after-requires
 place-after-requires c κs = search rules
 
-place-after-requires-2 : tie.Need-place-after-requires-2
+place-after-requires-2 : tie.Need-place_after-requires-2
 place-after-requires-2 c κs = search rules
 
-same_length : tie.Need-same-length
+same_length : tie.Need-shape_of-d
 same_length c = search rules
 
-same-length-2 : tie.Need-same-length-2
+same-length-2 : tie.Need-shape_of-p
 same-length-2 c = search rules
 
-same-length-3 : tie.Need-same-length-3
+same-length-3 : tie.Need-shape_of-e
 same-length-3 c = search rules
 
-same-length-4 : tie.Need-same-length-4
+same-length-4 : tie.Need-shape_of-q
 same-length-4 c = search rules
 
-same-length-5 : tie.Need-same-length-5
+same-length-5 : tie.Need-shape_of-db
 same-length-5 c = search rules
 
-same-length-6 : tie.Need-same-length-6
+same-length-6 : tie.Need-shape_of-power
 same-length-6 c = search rules
 
 returns : tie.Need-returns
@@ -76,28 +76,28 @@ returns c =
     let h = x.before.before.before.before.before.before.before in
     let s = start h in
     let a = s.args in
-    let n : ℕ = length a.d.now in
-    let d : List ℕ = x.log_read.new.1.1.0 in
-    let p : List ℕ = x.log_read.new.1.1.1.0 in
-    let e : List ℕ = y.log-read2.new.1.1.0 in
-    let q : List ℕ = y.log-read2.new.1.1.1.0 in
-    let one = x.log_read.ensures in
-    let two = y.log-read2.ensures in
-    let wide : length d ≡ n = x.log_read.auto.1.1.0 in
+    let n : ℕ = length a.d-1.now in
+    let d : List ℕ = x.log_read-one.new.1.1.0 in
+    let p : List ℕ = x.log_read-one.new.1.1.1.0 in
+    let e : List ℕ = y.log_read-two.new.1.1.0 in
+    let q : List ℕ = y.log_read-two.new.1.1.1.0 in
+    let one = x.log_read-one.ensures in
+    let two = y.log_read-two.ensures in
+    let wide : length d ≡ n = x.log_read-one.auto.1.1.0 in
     let after : (f : ℕ → ℕ) → tab (length d) f ≡ tab n f = λ f. ap (λ (m : ℕ). tab m f) wide in (
       (
         c.before.place_after.ensures ∙ ap (λ (r : Reading). place_after r.0 a.x) one,
-        c.place-after2.ensures ∙ ap (λ (r : Reading). place_after r.0 a.y) two,
+        c.place_after-2.ensures ∙ ap (λ (r : Reading). place_after r.0 a.y) two,
       ),
       (
         (ap (λ (r : Reading). r.1) one, ap (λ (r : Reading). r.2) one),
         (
           (ap (λ (r : Reading). r.1) two, ap (λ (r : Reading). r.2) two),
           (
-            two-halves n (second_half n a.db.now) (tab n (chosen_at p q d e)) a.db.now h.step_back.new.1.0 g.choose.new.1.1.1.1.1.0
-                (length-tab n _) (length-tab n _) s.pre.1.0 h.step_back.ensures.0 (g.choose.ensures.0 ∙ ap (λ (r : List ℕ). put n r h.step_back.new.1.0) (after (chosen_at p q d e))),
-            two-halves n (second_half n a.power.now) (tab n (chosen_at p q p q)) a.power.now h.step_back.new.1.1.0 g.choose.new.1.1.1.1.1.1.0
-                (length-tab n _) (length-tab n _) s.pre.1.1 h.step_back.ensures.1 (g.choose.ensures.1 ∙ ap (λ (r : List ℕ). put n r h.step_back.new.1.1.0) (after (chosen_at p q p q))),
+            two-halves n (second_half n a.db-1.now) (tab n (chosen_at p q d e)) a.db-1.now h.step_back.new.1.0 g.choose.new.1.1.1.1.1.0
+                (length-tab n _) (length-tab n _) s.requires.1.0 h.step_back.ensures.0 (g.choose.ensures.0 ∙ ap (λ (r : List ℕ). put n r h.step_back.new.1.0) (after (chosen_at p q d e))),
+            two-halves n (second_half n a.power-1.now) (tab n (chosen_at p q p q)) a.power-1.now h.step_back.new.1.1.0 g.choose.new.1.1.1.1.1.1.0
+                (length-tab n _) (length-tab n _) s.requires.1.1 h.step_back.ensures.1 (g.choose.ensures.1 ∙ ap (λ (r : List ℕ). put n r h.step_back.new.1.1.0) (after (chosen_at p q p q))),
           ),
         ),
       ),
