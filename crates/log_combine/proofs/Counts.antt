@@ -37,10 +37,6 @@ begins log db power e f =
       long = omega (arith, ap (λ (r : Reading). length r.1) z, mul-zero (low_two log 0));
     }
 
--- what the reader said, and which answer it was
-pub told : (a b : LogRead) (d p : List ℕ) (x : Reading) → ◌≡◌ {A = Reading} (a, d, p) x → a ≡ b → ◌≡◌ {A = Reading} x (b, d, p)
-told a b d p x e f = sym e ∙ ap (λ (y : LogRead). (y, d, p)) f
-
 -- a hop that was read takes a byte, and lies in the log
 pub onto : (log : List ℕ) (at : ℕ) (db power : List ℕ) (next : ℕ) (d p : List ℕ) → read_hop log at db power ≡ (R.Next next, d, p) → (at < next) × (next ≤ length log)
 unfolding pair_at
@@ -108,6 +104,11 @@ header-counts log r e h =
     let zs : List ℕ = tab n (λ _. 0) in
     let f : r ≡ start_refusal log 2 (length zs) (length zs) = e ∙ ap (λ (k : ℕ). start_refusal log 2 k k) (sym (length-tab n (λ _. 0))) in
     refused-counts log zs zs 2 0 (begins log zs zs refl refl) r zs zs (sym (read-refused log 2 zs zs r f h))
+
+-- a header that passes with n as the code has it tells how much of an array a pass needs
+pub few : (log : List ℕ) (n r : ℕ) → n ≡ low_two log 0 → r ≡ start_refusal log 2 n n → r ≡ 0 → n ≤ 512
+few log n r i e z =
+    omega (arith, i, (started log 2 (low_two log 0) (low_two log 0) (ap (λ (k : ℕ). start_refusal log 2 k k) (sym i) ∙ sym e ∙ z)).most)
 
 -- the front of an array of zeros
 pub take-zeros : (n m k : ℕ) → n ≤ m → n ≡ k → take {A = ℕ} n (replicate m 0) ≡ tab k (λ _. 0)

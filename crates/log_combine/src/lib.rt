@@ -1,6 +1,8 @@
 // Document 02, R-8: two logs of equal n and equal number of hops, combined by selection. One pass over both in step judges them and
 // measures the result, another writes it; what stands at each hop is kept in arrays. Where the first pass says no, the number of the
 // refusal is worked out from each log by itself.
+#![tactic(auto)]
+
 ghost use Rattle.std.specs.Prelude.{◌≡◌, cond, ◌&&◌, ◌++◌, ◌+◌, ◌*◌, ◌≤◌, eqb, ltb, leb, length};
 ghost use Rattle.laws.specs.Lists.{tab};
 ghost use Rattle.laws.specs.Bits.{width};

@@ -1,0 +1,29 @@
+-- What stood in the second half, and behind it the selection.
+use Rattle.std.proofs.Common.{ap, ◌∙◌, ℕ, length}
+use Rattle.laws.specs.Lists.{tab}
+use Rattle.laws.proofs.Tabs.{length-tab}
+use Rattle.log_hops.specs.Put.{put}
+use Rattle.combine_model.specs.Choose.{chosen_at}
+use Rattle.log_combine.specs.Passes.{second_half}
+use Rattle.log_combine.proofs.InStep.{two-halves}
+use Rattle.log_combine.proofs.turn.Goals as goal
+
+pub returns-clause-db_after : goal.returns-clause-db_after
+returns-clause-db_after c =
+    let n : ℕ = length c.args.d.now in
+    let one = c.log_read-one.new in
+    let two = c.log_read-two.new in
+    let f : ℕ → ℕ = chosen_at one.power_bits two.power_bits one.db_bits two.db_bits in
+    two-halves n (second_half n c.args.db.now) (tab n f) c.args.db.now c.step_back.new.db c.choose.new.db (length-tab n _) (length-tab n _)
+    c.requires.db_len.0 c.step_back.ensures.0
+    (c.choose.ensures.db_after ∙ ap (λ (m : ℕ). put n (tab m f) c.step_back.new.db) c.log_read-one.auto.db_bits)
+
+pub returns-clause-power_after : goal.returns-clause-power_after
+returns-clause-power_after c =
+    let n : ℕ = length c.args.d.now in
+    let one = c.log_read-one.new in
+    let two = c.log_read-two.new in
+    let f : ℕ → ℕ = chosen_at one.power_bits two.power_bits one.power_bits two.power_bits in
+    two-halves n (second_half n c.args.power.now) (tab n f) c.args.power.now c.step_back.new.power c.choose.new.power (length-tab n _) (length-tab n _)
+    c.requires.db_len.1 c.step_back.ensures.1
+    (c.choose.ensures.power_after ∙ ap (λ (m : ℕ). put n (tab m f) c.step_back.new.power) c.log_read-one.auto.db_bits)
