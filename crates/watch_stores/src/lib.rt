@@ -1,4 +1,6 @@
 // The stores of a recording, made.
+#![tactic(auto)]
+
 ghost use Rattle.std.specs.Prelude.{◌≡◌};
 ghost use Rattle.watch_stores.specs.Made.{made, worst_made};
 
