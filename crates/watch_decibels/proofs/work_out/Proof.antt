@@ -35,68 +35,68 @@ module _ (db power : List Float) where
   unfolding worked_out
   worked e h = rw (eq-eqb (length db) (length power) e, le-leb (length power) 512 h)
 
-abbrev invariant-loop : tie.invariant-loop
+abbrev invariant-loop : tie.invariant-loop-k
 invariant-loop db₀ power n worked k₀ db k = Filled db₀ (entry power) k db × (k ≤ length power)
 
-abbrev decreases-loop : tie.decreases-loop
+abbrev decreases-loop : tie.decreases-loop-k
 decreases-loop db₀ power n worked k₀ db k = length power - k
 
-returns : tie.Need-returns invariant-loop decreases-loop
+returns : tie.Need-returns-then-db-n invariant-loop decreases-loop
 returns c = let s = c.before.before.before in
-    unlike s.args.db.now s.args.power.now c.if1.true
+    unlike s.args.db.now s.args.power.now c.if-db-n.true
 
-returns-2 : tie.Need-returns-2 invariant-loop decreases-loop
+returns-2 : tie.Need-returns-then-n-gt512 invariant-loop decreases-loop
 returns-2 c = let s = c.before.before.before.before in
     too_long s.args.db.now s.args.power.now (omega arith)
 
-hop-db-requires : tie.Need-hop-db-requires invariant-loop decreases-loop
+hop-db-requires : tie.Need-hop_db-worked-requires invariant-loop decreases-loop
 hop-db-requires c κs = search rules
 
-loop-holds : tie.Need-loop-init invariant-loop decreases-loop
+loop-holds : tie.Need-loop-k-init invariant-loop decreases-loop
 loop-holds c = (begins _ _, omega arith)
 
-mul-db : tie.Need-overflow-mul-db invariant-loop decreases-loop
+mul-db : tie.Need-offset_bounds-worked-k invariant-loop decreases-loop
 mul-db c = search rules
 
-array-read-db : tie.Need-array-read-db invariant-loop decreases-loop
+array-read-db : tie.Need-bounds-worked-k invariant-loop decreases-loop
 array-read-db c = omega arith
 
-mul-db-2 : tie.Need-overflow-mul-db-2 invariant-loop decreases-loop
+mul-db-2 : tie.Need-offset_bounds-db-k invariant-loop decreases-loop
 mul-db-2 c = search rules
 
-slice-write-db : tie.Need-slice-write-db invariant-loop decreases-loop
-slice-write-db c = omega (arith, c.before.loop.invariant.0.long)
+slice-write-db : tie.Need-bounds-db-k invariant-loop decreases-loop
+slice-write-db c = omega (arith, c.before.loop-k.invariant.0.long)
 
-add-k : tie.Need-overflow-add-k invariant-loop decreases-loop
+add-k : tie.Need-overflow_add-k invariant-loop decreases-loop
 add-k c = search rules
 
-loop-less : tie.Need-loop-smaller invariant-loop decreases-loop
+loop-less : tie.Need-loop-k-smaller invariant-loop decreases-loop
 loop-less c = search rules
 
-loop-again : tie.Need-loop-preserved invariant-loop decreases-loop
+loop-again : tie.Need-loop-k-preserved invariant-loop decreases-loop
 loop-again c =
     let l = c.before in
     let d = l.before in
     let s = d.before.before.before.before.before in (
-      turns s.args.db.now (entry s.args.power.now) l.loop.k l.loop.db _ l.loop.invariant.0 (omega (arith, l.loop.invariant.0.long))
-          (in-front-at s.args.power.now d.hop-db.result d.hop-db.ensures l.loop.k nan (omega arith)),
+      turns s.args.db.now (entry s.args.power.now) l.loop-k.k l.loop-k.db _ l.loop-k.invariant.0 (omega (arith, l.loop-k.invariant.0.long))
+          (in-front-at s.args.power.now d.hop_db-worked.result d.hop_db-worked.ensures l.loop-k.k nan (omega arith)),
       omega arith,
     )
 
-same_length : tie.Need-same-length invariant-loop decreases-loop
+same_length : tie.Need-shape_of-db invariant-loop decreases-loop
 same_length c = search rules
 
-returns-3 : tie.Need-returns-3 invariant-loop decreases-loop
+returns-3 : tie.Need-returns invariant-loop decreases-loop
 unfolding decibels
 returns-3 c = let l = c.before in
     let s = l.before.before.before.before.before.before in
     let e : length s.args.db.now ≡ length s.args.power.now = omega arith in
-    done s.args.db.now (entry s.args.power.now) l.loop.k l.loop.db l.loop.invariant.0 (omega arith)
+    done s.args.db.now (entry s.args.power.now) l.loop-k.k l.loop-k.db l.loop-k.invariant.0 (omega arith)
     ∙ ap (λ (n : ℕ). tab n (entry s.args.power.now)) e
     ∙ worked s.args.db.now s.args.power.now e (omega arith)
 
-pub work-out-spec : {M : Type 1} → statement M
-work-out-spec =
+pub work_out_spec : {M : Type 1} → statement M
+work_out_spec =
     tie.close
     (tie.spec
     invariant-loop
