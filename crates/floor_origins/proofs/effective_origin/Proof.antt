@@ -6,37 +6,37 @@ use borrow.Author.Rules.{rules}
 use Rattle.floor_origins.proofs.effective_origin.Statement.{statement}
 use Rattle.floor_origins.proofs.effective_origin.Tie as tie
 
-least-requires : tie.Need-least-requires
+least-requires : tie.Need-least-lower-requires
 least-requires c κs = search rules
 
-seed-named-requires : tie.Need-seed-named-requires
+seed-named-requires : tie.Need-seed_named-requires
 seed-named-requires c κs = search rules
 
 seed-requires : tie.Need-seed-requires
 seed-requires c κs = search rules
 
-returns : tie.Need-returns
+returns : tie.Need-returns-then-seed_named
 unfolding effective_origin
 returns c = let l = c.before.before.before in
-    simp (← l.least.ensures, ← c.before.before.seed-named.ensures, c.before.if1.true) (ap Named.Seed c.seed.ensures)
+    simp (← l.least-lower.ensures, ← c.before.before.seed_named.ensures, c.before.if-seed_named.true) (ap Named.Seed c.seed.ensures)
 
-later-of-min-requires : tie.Need-later-of-min-requires
+later-of-min-requires : tie.Need-later_of_min-requires
 later-of-min-requires c κs = search rules
 
-returns-2 : tie.Need-returns-2
+returns-2 : tie.Need-returns-then-later_of_min
 unfolding effective_origin
 returns-2 c = let q = c.before.before in
     let l = q.before.before in
-    simp (← l.least.ensures, ← q.before.seed-named.ensures, q.if1.false, ← c.before.later-of-min.ensures, c.if2.true)
+    simp (← l.least-lower.ensures, ← q.before.seed_named.ensures, q.if-seed_named.false, ← c.before.later_of_min.ensures, c.if-later_of_min.true)
 
-returns-3 : tie.Need-returns-3
+returns-3 : tie.Need-returns
 unfolding effective_origin
 returns-3 c = let q = c.before.before in
     let l = q.before.before in
-    simp (← l.least.ensures, ← q.before.seed-named.ensures, q.if1.false, ← c.before.later-of-min.ensures, c.if2.false)
+    simp (← l.least-lower.ensures, ← q.before.seed_named.ensures, q.if-seed_named.false, ← c.before.later_of_min.ensures, c.if-later_of_min.false)
 
-pub effective-origin-spec : {M : Type 1} → statement M
-effective-origin-spec =
+pub effective_origin_spec : {M : Type 1} → statement M
+effective_origin_spec =
     tie.close
     (tie.spec
     least-requires

@@ -6,5 +6,5 @@ use Rattle.floor_origins.proofs.is_number.Tie as tie
 returns : tie.Need-returns
 returns c = eq_self c.args.x
 
-pub is-number-spec : {M : Type 1} → statement M
-is-number-spec = tie.close (tie.spec returns)
+pub is_number_spec : {M : Type 1} → statement M
+is_number_spec = tie.close (tie.spec returns)

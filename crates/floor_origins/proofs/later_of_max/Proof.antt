@@ -5,19 +5,19 @@ use Rattle.floor_origins.proofs.Numbers.{nan_is}
 use Rattle.floor_origins.proofs.later_of_max.Statement.{statement}
 use Rattle.floor_origins.proofs.later_of_max.Tie as tie
 
-is-number-requires : tie.Need-is-number-requires
+is-number-requires : tie.Need-is_number-requires
 is-number-requires c κs = search rules
 
-is-number-requires-2 : tie.Need-is-number-requires-2
+is-number-requires-2 : tie.Need-is_number-requires-then-not-is_number
 is-number-requires-2 c κs = search rules
 
-returns : tie.Need-returns
+returns : tie.Need-returns-then-not-is_number
 returns c = let n = c.before.before in
-    rw (nan_is n.before.args.a n.is_number.result true n.is_number.ensures c.before.if1.true) c.is-number2.ensures
+    rw (nan_is n.before.args.a n.is_number.result true n.is_number.ensures c.before.if-not-is_number.true) c.is_number-then-not-is_number.ensures
 
-returns-2 : tie.Need-returns-2
+returns-2 : tie.Need-returns
 returns-2 c = let n = c.before in
-    rw (nan_is n.before.args.a n.is_number.result false n.is_number.ensures c.if1.false)
+    rw (nan_is n.before.args.a n.is_number.result false n.is_number.ensures c.if-not-is_number.false)
 
-pub later-of-max-spec : {M : Type 1} → statement M
-later-of-max-spec = tie.close (tie.spec is-number-requires is-number-requires-2 returns returns-2)
+pub later_of_max_spec : {M : Type 1} → statement M
+later_of_max_spec = tie.close (tie.spec is-number-requires is-number-requires-2 returns returns-2)

@@ -5,24 +5,24 @@ use borrow.Author.Rules.{rules}
 use Rattle.floor_origins.proofs.seed_named.Statement.{statement}
 use Rattle.floor_origins.proofs.seed_named.Tie as tie
 
-returns : tie.Need-returns
-returns c = rw (not-true c.before.args.early c.if1.true)
+returns : tie.Need-returns-then-not-early
+returns c = rw (not-true c.before.args.early c.if-not-early.true)
 
-returns-2 : tie.Need-returns-2
+returns-2 : tie.Need-returns-then-pushes-eq0
 returns-2 c = let s = c.before.before in
-    rw (not-false s.args.early c.before.if1.false, c.if2.true)
+    rw (not-false s.args.early c.before.if-not-early.false, c.if-pushes-eq0.true)
 
 seed-requires : tie.Need-seed-requires
 seed-requires c κs = search rules
 
-later-of-max-requires : tie.Need-later-of-max-requires
+later-of-max-requires : tie.Need-later_of_max-requires
 later-of-max-requires c κs = search rules
 
-returns-3 : tie.Need-returns-3
+returns-3 : tie.Need-returns
 returns-3 c = let s = c.before.before.before.before in
-    simp (not-false s.args.early c.before.before.before.if1.false, lt-ltb 0 s.args.pushes (omega arith), ← c.before.seed.ensures)
-    c.later-of-max.ensures
+    simp (not-false s.args.early c.before.before.before.if-not-early.false, lt-ltb 0 s.args.pushes (omega arith), ← c.before.seed.ensures)
+    c.later_of_max.ensures
 
-pub seed-named-spec : {M : Type 1} → statement M
-seed-named-spec =
+pub seed_named_spec : {M : Type 1} → statement M
+seed_named_spec =
     tie.close (tie.spec returns returns-2 seed-requires later-of-max-requires returns-3)
