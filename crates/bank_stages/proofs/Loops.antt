@@ -15,14 +15,14 @@ use Rattle.block.specs.Seeds.{Seedable, Seeded, pushes_at, sum_at}
 use Rattle.model.specs.Numbers.{f0, power_linear, smoothed}
 use Rattle.model.specs.Layout.{bins, ring_len, at_filled, at_lead, channel_len, block_channels}
 use Rattle.model.specs.Ring.{bin_of, push_in, raw_floor, usable_floor, since, entries}
-use Rattle.model.specs.Bank.{FloorBank, hop, power_after, smooth_after, seeds_after, sums_after, block, blocks, median, rise_floor, channel, channel_after, chans_after, fresh_channel, raw_floors, usable_floors, block_floors, rise_floors}
+use Rattle.model.specs.Bank.{hop, power_after, smooth_after, seeds_after, sums_after, block, blocks, median, rise_floor, channel, channel_after, chans_after, fresh_channel, raw_floors, usable_floors, block_floors, rise_floors}
 use Rattle.model.specs.Stores.{chan_u, chan_of, chan_part, base, bank_u16s, bank_floats, bank_of, bank_len, bank_f_len}
 use Rattle.model.specs.Sound.{Sound}
 use Rattle.laws.proofs.Counting.{occ-le}
 use Rattle.model.proofs.Channels.{length-chan_u}
 use Rattle.model.proofs.SoundRings.{sound-push}
 use Rattle.model.proofs.Bins.{bin-below}
-use Rattle.model.specs.GoodBank.{Good, Ready}
+use Rattle.model.specs.GoodBank.{Ready}
 use Rattle.model.proofs.BankStores.{Lengths, bank-forth-u, bank-forth-f, put-raw, put-usable, put-smooth, put-rise, put-block, put-sums, put-seeds, put-chans}
 use Rattle.model.proofs.GoodBanks.{lengths}
 use Rattle.bank_stages.specs.Steps.{Holds, smooth_step, seed_step, push_step, raw_step, usable_step, block_step, rise_step}

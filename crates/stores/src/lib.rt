@@ -1,4 +1,5 @@
 // Document 01, "Stores": the soundness test of a lent bank, and the refusals in their order.
+#![tactic(auto)]
 
 ghost use Rattle.std.specs.Prelude.{◌≡◌, true, ◌≤◌, length};
 ghost use Rattle.laws.specs.Tests.{all_below};

@@ -1,5 +1,5 @@
 use mathlib.Core.Path.{◌≡◌, sym, ap, ◌∙◌}
-use mathlib.Core.Bool.{true}
+use mathlib.Core.Bool.{not, true}
 use Prim.Native.Nat.{ℕ, ◌≤◌, ◌-◌, ◌+◌, ◌*◌}
 use native.Mathlib.Omega.{arith}
 use borrow.Author.Tests.{not-true, not-false}
@@ -9,7 +9,7 @@ use Rattle.laws.specs.Tests.{all_below}
 use Rattle.laws.proofs.Lists.{width, length_part}
 use Rattle.laws.proofs.Tests.{all_true, all_more, all-fails, all_done}
 use Rattle.model.specs.Layout.{channel_len}
-use Rattle.model.specs.Stores.{base, chan_of, sound_channel}
+use Rattle.model.specs.Stores.{chan_of, sound_channel}
 use Rattle.stores.specs.Checks.{is_sound, sound_channels}
 use Rattle.stores.proofs.channels_sound.Statement.{statement}
 use Rattle.stores.proofs.channels_sound.Tie as tie
@@ -79,7 +79,7 @@ unfolding sound_channels
 returns c = let q = c.before in
     let l = q.before.before.before in
     let s = l.before.before.before.before in
-    sym (all-fails (is_sound s.args.bank.now s.args.n) s.args.n l.loop-k.k (omega arith) (sym (answer q) ∙ not-true _ c.if-not-channel_sound.true))
+    sym (all-fails (is_sound s.args.bank.now s.args.n) s.args.n l.loop-k.k (omega arith) (sym (answer q) ∙ not-true _ (ap not c.if-not-channel_sound.true)))
 
 add-k : tie.Need-overflow_add-k invariant-loop decreases-loop
 add-k c = search rules
@@ -91,7 +91,7 @@ loop-again : tie.Need-loop-k-preserved invariant-loop decreases-loop
 loop-again c = let q = c.before in
     let l = q.before.before.before in
     let s = l.before.before.before.before in
-    (omega arith, all_more (is_sound s.args.bank.now s.args.n) l.loop-k.k l.loop-k.invariant.1 (sym (answer q) ∙ not-false _ c.if-not-channel_sound.false))
+    (omega arith, all_more (is_sound s.args.bank.now s.args.n) l.loop-k.k l.loop-k.invariant.1 (sym (answer q) ∙ not-false _ (ap not c.if-not-channel_sound.false)))
 
 returns-2 : tie.Need-returns invariant-loop decreases-loop
 unfolding sound_channels

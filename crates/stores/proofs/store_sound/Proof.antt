@@ -1,4 +1,5 @@
-use mathlib.Core.Path.{sym, ◌∙◌}
+use mathlib.Core.Bool.{not}
+use mathlib.Core.Path.{ap, sym, ◌∙◌}
 use borrow.Author.Tests.{not-true, not-false}
 use borrow.Author.Rules.{rules}
 use Rattle.stores.proofs.Banks.{head-fails, seeds-fail, channels-decide}
@@ -19,7 +20,7 @@ head-sound-requires c κs = search rules
 
 returns : tie.Need-returns-then-not-head_sound
 returns c = let s = start c.before in
-    head-fails s.args.bank.now s.args.n (sym c.before.head_sound.ensures ∙ not-true _ c.if-not-head_sound.true)
+    head-fails s.args.bank.now s.args.n (sym c.before.head_sound.ensures ∙ not-true _ (ap not c.if-not-head_sound.true))
 
 seeds-sound-requires : tie.Need-seeds_sound-requires
 seeds-sound-requires c κs = search rules
@@ -27,7 +28,7 @@ seeds-sound-requires c κs = search rules
 returns-2 : tie.Need-returns-then-not-seeds_sound
 returns-2 c = let e = c.before in
     let s = start e.before.before in
-    seeds-fail s.args.bank.now s.args.n (sym e.seeds_sound.ensures ∙ not-true _ c.if-not-seeds_sound.true)
+    seeds-fail s.args.bank.now s.args.n (sym e.seeds_sound.ensures ∙ not-true _ (ap not c.if-not-seeds_sound.true))
 
 channels-sound-requires : tie.Need-channels_sound-requires
 channels-sound-requires c κs = search rules
@@ -37,8 +38,8 @@ returns-3 c = let e = c.before in
     let d = e.before.before in
     let s = start d.before in
     c.channels_sound.ensures
-    ∙ channels-decide s.args.bank.now s.args.n (sym d.before.head_sound.ensures ∙ not-false _ d.if-not-head_sound.false)
-    (sym e.before.seeds_sound.ensures ∙ not-false _ e.if-not-seeds_sound.false)
+    ∙ channels-decide s.args.bank.now s.args.n (sym d.before.head_sound.ensures ∙ not-false _ (ap not d.if-not-head_sound.false))
+    (sym e.before.seeds_sound.ensures ∙ not-false _ (ap not e.if-not-seeds_sound.false))
 
 pub store_sound_spec : {M : Type 1} → statement M
 store_sound_spec =
