@@ -1,4 +1,6 @@
 // R-13: the dB of a hop left aside, and worked out from its powers.
+#![tactic(auto)]
+
 ghost use Rattle.std.specs.Prelude.{◌≡◌};
 ghost use Rattle.watch_decibels.specs.Worked.{worked_out};
 
