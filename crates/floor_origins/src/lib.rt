@@ -1,4 +1,6 @@
 // Document 02, R-4: which rule yields a floor, from the five numbers that a channel's floors come from.
+#![tactic(auto)]
+
 ghost use Rattle.std.specs.Prelude.{◌≡◌, not, ◌&&◌, ltb};
 ghost use Rattle.std.specs.Float.Ieee.{is_nan};
 ghost use Rattle.model.specs.Bank.{seed_of};

@@ -13,8 +13,8 @@ use Rattle.laws.proofs.Tests.{passed, neither}
 use Rattle.laws.proofs.Tabs.{get_d-tab}
 use Rattle.model.specs.Layout.{block_channels, hist_min}
 use Rattle.model.specs.Numbers.{f0}
-use Rattle.model.specs.Bank.{FloorBank, Hop, blocks, channel, fresh_channel, fresh_bank, effective_floor, rise_floor, rise_floors, fast_step, slow_step, step_at, bank_step}
-use Rattle.model.specs.Stores.{bank_u16s, bank_of}
+use Rattle.model.specs.Bank.{FloorBank, Hop, blocks, fresh_channel, fresh_bank, effective_floor, rise_floor, rise_floors, fast_step, slow_step, step_at, bank_step}
+use Rattle.model.specs.Stores.{bank_of}
 use Rattle.model.specs.Refusals.{bank_refusal, read_refusal, update_refusal}
 use Rattle.model.specs.Calls.{leaves, bank_update_call}
 use Rattle.model.specs.Readings.{reading, rise_at, rise_reading}
@@ -23,7 +23,7 @@ use Rattle.model.specs.Reach.{Stores, BankCall, update, stores_in, left, left_by
 use Rattle.model.proofs.GoodBanks.{bank-back, good-ready}
 use Rattle.model.proofs.FreshBanks.{good-fresh, good-step}
 use Rattle.model.proofs.Reach.{call-keeps}
-use Rattle.origins.specs.Origins.{ofChannel, explained}
+use Rattle.origins.specs.Origins.{ofChannel}
 use Rattle.origins.specs.Explains.{RiseReached}
 use Rattle.origins.proofs.Explains.{rise-explained}
 

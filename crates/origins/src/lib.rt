@@ -1,4 +1,6 @@
 // Document 02, R-4: the types of an explanation, each origin carrying its dB. Their definitions stand in specs/.
+#![tactic(auto)]
+
 ghost use Rattle.std.specs.Prelude.{◌≡◌};
 ghost use Rattle.origins.specs.Origins.{effective_number, effective_db, rise_number, rise_db};
 

@@ -1,5 +1,6 @@
 -- `floor_origins::later_of_max` meets its contract. Assumes nothing.
-use mathlib.Core.Bool.{true, false}
+use mathlib.Core.Path.{ap}
+use mathlib.Core.Bool.{not, true, false}
 use borrow.Author.Rules.{rules}
 use Rattle.floor_origins.proofs.Numbers.{nan_is}
 use Rattle.floor_origins.proofs.later_of_max.Statement.{statement}
@@ -13,11 +14,11 @@ is-number-requires-2 c κs = search rules
 
 returns : tie.Need-returns-then-not-is_number
 returns c = let n = c.before.before in
-    rw (nan_is n.before.args.a n.is_number.result true n.is_number.ensures c.before.if-not-is_number.true) c.is_number-then-not-is_number.ensures
+    rw (nan_is n.before.args.a n.is_number.result true n.is_number.ensures (ap not c.before.if-not-is_number.true)) c.is_number-then-not-is_number.ensures
 
 returns-2 : tie.Need-returns
 returns-2 c = let n = c.before in
-    rw (nan_is n.before.args.a n.is_number.result false n.is_number.ensures c.if-not-is_number.false)
+    rw (nan_is n.before.args.a n.is_number.result false n.is_number.ensures (ap not c.if-not-is_number.false))
 
 pub later_of_max_spec : {M : Type 1} → statement M
 later_of_max_spec = tie.close (tie.spec is-number-requires is-number-requires-2 returns returns-2)
