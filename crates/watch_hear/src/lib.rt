@@ -1,4 +1,6 @@
 // What the bank and the gate answer to a hop.
+#![tactic(auto)]
+
 ghost use Rattle.std.specs.Prelude.{◌≡◌};
 ghost use Rattle.model.specs.Bank.{hop};
 ghost use Rattle.model.specs.WorstCalls.{update_if};
@@ -34,7 +36,7 @@ fn judge_gate(
     rise: &mut [u8],
     drop: &mut [u8],
 ) -> u16
-    ensures { (result, gate.new, gate_f.new, rise.new, drop.new) ≡ gate_judged is_static bank.now bank_f.now gate.old gate_f.old (record { db = db.entry.now; power = power.now }) rise.old drop.old }
+    ensures { (result, gate.new, gate_f.new, rise.new, drop.new) ≡ gate_judged is_static bank.now bank_f.now gate.old gate_f.old (record { db = db.now; power = power.now }) rise.old drop.old }
 {
     if is_static {
         return gate::gate_hold(bank, bank_f, gate, gate_f, rise, drop);
@@ -76,7 +78,7 @@ fn judge(
     rise: &mut [u8],
     drop: &mut [u8],
 ) -> u16
-    ensures { (result, bank.new, bank_f.new, worst.new, worst_f.new, gate.new, gate_f.new, rise.new, drop.new) ≡ judged carries is_static bank.old bank_f.old worst.old worst_f.old gate.old gate_f.old (record { db = db.entry.now; power = power.now }) rise.old drop.old }
+    ensures { (result, bank.new, bank_f.new, worst.new, worst_f.new, gate.new, gate_f.new, rise.new, drop.new) ≡ judged carries is_static bank.old bank_f.old worst.old worst_f.old gate.old gate_f.old (record { db = db.now; power = power.now }) rise.old drop.old }
 {
     let no = judge_bank(carries, is_static, bank, bank_f, worst, worst_f, db, power);
     if no != 0 {
@@ -109,7 +111,7 @@ pub fn hear(
     rise: &mut [u8],
     drop: &mut [u8],
 ) -> Heard
-    ensures { (result, bank.new, bank_f.new, worst.new, worst_f.new, gate.new, gate_f.new, rise.new, drop.new) ≡ heard_of step carries bank.old bank_f.old worst.old worst_f.old gate.old gate_f.old (record { db = db.entry.now; power = power.now }) rise.old drop.old }
+    ensures { (result, bank.new, bank_f.new, worst.new, worst_f.new, gate.new, gate_f.new, rise.new, drop.new) ≡ heard_of step carries bank.old bank_f.old worst.old worst_f.old gate.old gate_f.old (record { db = db.now; power = power.now }) rise.old drop.old }
 {
     match step {
         Step::End => Heard::End,
