@@ -15,11 +15,11 @@ index-requires c κs = search rules
 index-requires-2 : tie.Need-index-requires-2
 index-requires-2 c κs = search rules
 
-mul-result : tie.Need-overflow-mul-result
+mul-result : tie.Need-overflow_mul-result
 mul-result c = record { fits = small (search rules) (search rules) }
 
 returns : tie.Need-returns
 returns c = search rules
 
-pub values-of-spec : {M : Type 1} → statement M
-values-of-spec = tie.close (tie.spec index-requires index-requires-2 mul-result returns)
+pub values_of_spec : {M : Type 1} → statement M
+values_of_spec = tie.close (tie.spec index-requires index-requires-2 mul-result returns)
