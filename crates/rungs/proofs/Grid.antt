@@ -9,7 +9,7 @@ use lib.IntN.{pos}
 use lib.Ieee.{Float, binary64, mul, of_int}
 use Rattle.laws.specs.Lists.{tab, tab_from}
 use Rattle.laws.proofs.Tabs.{tab-ext, tab_from-shift, tab_from-append}
-use Rattle.model.specs.Layout.{rungs_below, rungs_above, rung_count}
+use Rattle.model.specs.Layout.{rungs_below, rungs_above}
 use Rattle.model.specs.Ladder.{roots, root_of, ten_to, rung_value}
 use Rattle.model.specs.Decibels.{rung_values}
 

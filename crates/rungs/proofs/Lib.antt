@@ -1,3 +1,2 @@
-pub mod Literals
 pub mod Grid
 pub mod Rising

@@ -1,4 +1,6 @@
 // Document 02, R-13: the search for the highest rung that is at most a value, in a table that is lent.
+#![tactic(auto)]
+
 ghost use Rattle.std.specs.Prelude.{◌≡◌, ◌<◌};
 ghost use Rattle.model.specs.Layout.{rung_count};
 ghost use Rattle.model.specs.Decibels.{rung_values, highest_rung};

@@ -5288,12 +5288,11 @@ const RUNGS: [f64; RUNG_COUNT] = [
     9.999999999999999e39,
 ];
 
-// Every call writes the table out anew: have one caller, and lend it on. `_lowest` keeps the borrow checker from walking this function: its
-// walk of an array of floats grows with the square of the length and ends in the prover's limit of steps. proofs/table/rungs walks it by hand.
+// Every call writes the table out anew: have one caller, and lend it on. It is copied from behind a reference: an array that is made entry by
+// entry takes the proof a minute more.
 pub fn rungs() -> [f64; RUNG_COUNT]
     ensures { result ≡ rung_values }
 {
     let all = &RUNGS;
-    let _lowest = &all[0];
     *all
 }
