@@ -1,4 +1,5 @@
 // Document 01, "Stores", the gate's half: the test of a lent gate, and the refusals in their order.
+#![tactic(auto)]
 
 ghost use Rattle.std.specs.Prelude.{◌≡◌};
 ghost use Rattle.model.specs.GateCalls.{gate_refusal, pair_refusal, gate_update_refusal, hold_refusal};

@@ -9,39 +9,39 @@ use Rattle.gate_sound.proofs.Sizes.{pair-thirty}
 use Rattle.gate_store.proofs.hold_refusal.Statement.{statement}
 use Rattle.gate_store.proofs.hold_refusal.Tie as tie
 
-abbrev start : tie.Else1 → tie.Start
+abbrev start : tie.Else-no_pair-ne0 → tie.Start
 start e = e.before.before.before.before.before.before
 
-none : (e : tie.Else1) → pair_refusal (start e).args.bank.now (start e).args.bank-f.now (start e).args.gate.now (start e).args.gate-f.now ≡ 0
-none e = sym e.before.pair-refusal.ensures ∙ e.if1.false
+none : (e : tie.Else-no_pair-ne0) → pair_refusal (start e).args.bank.now (start e).args.bank_f.now (start e).args.gate.now (start e).args.gate_f.now ≡ 0
+none e = sym e.before.pair_refusal-no_pair.ensures ∙ e.if-no_pair-ne0.false
 
-pair-refusal-requires : tie.Need-pair-refusal-requires
+pair-refusal-requires : tie.Need-pair_refusal-no_pair-requires
 pair-refusal-requires c κs = search rules
 
-returns : tie.Need-returns
+returns : tie.Need-returns-then-no_pair-ne0
 unfolding hold_refusal
 returns c = let r = c.before in
-    r.pair-refusal.ensures ∙ stands _ _ (λ q. c.if1.true (r.pair-refusal.ensures ∙ q))
+    r.pair_refusal-no_pair.ensures ∙ stands _ _ (λ q. c.if-no_pair-ne0.true (r.pair_refusal-no_pair.ensures ∙ q))
 
-shared-slice-read-wide : tie.Need-shared-slice-read-wide
+shared-slice-read-wide : tie.Need-bounds-gate-0
 shared-slice-read-wide c = let s = start c.before in
-    omega (arith, pair-thirty s.args.bank.now s.args.bank-f.now s.args.gate.now s.args.gate-f.now (none c.before))
+    omega (arith, pair-thirty s.args.bank.now s.args.bank_f.now s.args.gate.now s.args.gate_f.now (none c.before))
 
 wide-requires : tie.Need-wide-requires
 wide-requires c κs = search rules
 
-two-long-requires : tie.Need-two-long-requires
+two-long-requires : tie.Need-two_long-requires
 two-long-requires c κs = search rules
 
-returns-2 : tie.Need-returns-2
+returns-2 : tie.Need-returns
 unfolding hold_refusal
 returns-2 c = let w = c.before in
     let e = w.before.before in
     let s = start e in
-    goes_on _ _ _ (none e) (c.two-long.ensures ∙ ap (λ (n : ℕ). two_long n s.args.rise s.args.drop) w.wide.ensures)
+    goes_on _ _ _ (none e) (c.two_long.ensures ∙ ap (λ (n : ℕ). two_long n s.args.rise s.args.drop) w.wide.ensures)
 
-pub hold-refusal-spec : {M : Type 1} → statement M
-hold-refusal-spec =
+pub hold_refusal_spec : {M : Type 1} → statement M
+hold_refusal_spec =
     tie.close
     (tie.spec
     pair-refusal-requires

@@ -10,52 +10,52 @@ use Rattle.gate_sound.proofs.Sizes.{thirty}
 use Rattle.gate_store.proofs.pair_refusal.Statement.{statement}
 use Rattle.gate_store.proofs.pair_refusal.Tie as tie
 
-abbrev start : tie.Else1 → tie.Start
+abbrev start : tie.Else-no_bank-ne0 → tie.Start
 start e = e.before.before.before.before.before.before
 
-no_bank : (e : tie.Else1) → bank_refusal (start e).args.bank.now (start e).args.bank-f.now ≡ 0
-no_bank e = sym e.before.bank-refusal.ensures ∙ e.if1.false
+no_bank : (e : tie.Else-no_bank-ne0) → bank_refusal (start e).args.bank.now (start e).args.bank_f.now ≡ 0
+no_bank e = sym e.before.bank_refusal-no_bank.ensures ∙ e.if-no_bank-ne0.false
 
-no-gate : (e : tie.Else2) → gate_refusal (start e.before.before).args.gate.now (start e.before.before).args.gate-f.now ≡ 0
-no-gate e = sym e.before.gate-refusal.ensures ∙ e.if2.false
+no-gate : (e : tie.Else-no_gate-ne0) → gate_refusal (start e.before.before).args.gate.now (start e.before.before).args.gate_f.now ≡ 0
+no-gate e = sym e.before.gate_refusal-no_gate.ensures ∙ e.if-no_gate-ne0.false
 
-bank-refusal-requires : tie.Need-bank-refusal-requires
+bank-refusal-requires : tie.Need-bank_refusal-no_bank-requires
 bank-refusal-requires c κs = search rules
 
-returns : tie.Need-returns
+returns : tie.Need-returns-then-no_bank-ne0
 unfolding pair_refusal
 returns c = let r = c.before in
-    r.bank-refusal.ensures ∙ stands _ _ (λ q. c.if1.true (r.bank-refusal.ensures ∙ q))
+    r.bank_refusal-no_bank.ensures ∙ stands _ _ (λ q. c.if-no_bank-ne0.true (r.bank_refusal-no_bank.ensures ∙ q))
 
-gate-refusal-requires : tie.Need-gate-refusal-requires
+gate-refusal-requires : tie.Need-gate_refusal-no_gate-requires
 gate-refusal-requires c κs = search rules
 
-returns-2 : tie.Need-returns-2
+returns-2 : tie.Need-returns-then-no_gate-ne0
 unfolding pair_refusal
 returns-2 c = let r = c.before in
-    goes_on _ _ _ (no_bank r.before) (r.gate-refusal.ensures ∙ stands _ _ (λ q. c.if2.true (r.gate-refusal.ensures ∙ q)))
+    goes_on _ _ _ (no_bank r.before) (r.gate_refusal-no_gate.ensures ∙ stands _ _ (λ q. c.if-no_gate-ne0.true (r.gate_refusal-no_gate.ensures ∙ q)))
 
-shared-slice-read-if3 : tie.Need-shared-slice-read-if3
+shared-slice-read-if3 : tie.Need-bounds-bank-0
 shared-slice-read-if3 c = let e = c.before.before.before in
-    omega (arith, at-least-three (start e).args.bank.now (start e).args.bank-f.now (no_bank e))
+    omega (arith, at-least-three (start e).args.bank.now (start e).args.bank_f.now (no_bank e))
 
-shared-slice-read-if3-2 : tie.Need-shared-slice-read-if3-2
+shared-slice-read-if3-2 : tie.Need-bounds-gate-0
 shared-slice-read-if3-2 c = let d = c.before.before in
     let s = start d.before.before in
-    omega (arith, thirty s.args.gate.now s.args.gate-f.now (no-gate d))
+    omega (arith, thirty s.args.gate.now s.args.gate_f.now (no-gate d))
 
-returns-3 : tie.Need-returns-3
+returns-3 : tie.Need-returns-then-bank-gate
 unfolding pair_refusal
 returns-3 c = let d = c.before.before.before in
-    goes_on _ _ 0 (no_bank d.before.before) (goes_on _ _ 0 (no-gate d) (simp (eq-eqb _ _ c.if3.true)))
+    goes_on _ _ 0 (no_bank d.before.before) (goes_on _ _ 0 (no-gate d) (simp (eq-eqb _ _ c.if-bank-gate.true)))
 
-returns-4 : tie.Need-returns-4
+returns-4 : tie.Need-returns
 unfolding pair_refusal
 returns-4 c = let d = c.before.before.before in
-    goes_on _ _ 8 (no_bank d.before.before) (goes_on _ _ 8 (no-gate d) (simp (ne_eqb _ _ c.if3.false)))
+    goes_on _ _ 8 (no_bank d.before.before) (goes_on _ _ 8 (no-gate d) (simp (ne_eqb _ _ c.if-bank-gate.false)))
 
-pub pair-refusal-spec : {M : Type 1} → statement M
-pair-refusal-spec =
+pub pair_refusal_spec : {M : Type 1} → statement M
+pair_refusal_spec =
     tie.close
     (tie.spec
     bank-refusal-requires
