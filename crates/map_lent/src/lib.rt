@@ -1,5 +1,7 @@
 // Document 02, R-12: a lent map beside its lent gate, whose n it has, and beside a bank too: the refusals of the calls on it and of those that
 // carry it, in their order. The gate's store is tested before the map, and each store once.
+#![tactic(auto)]
+
 ghost use Rattle.std.specs.Prelude.{◌≡◌};
 ghost use Rattle.model.specs.MapCalls.{map_make_refusal, map_refusal, address_refusal, after_gate, pair_map_refusal, update_map_refusal, hold_map_refusal};
 
