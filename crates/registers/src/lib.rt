@@ -1,4 +1,6 @@
 // Document 02, R-12: registers for the main processor, in a lent map beside its lent gate: making, read, write, wire.
+#![tactic(auto)]
+
 ghost use Rattle.std.specs.Prelude.{◌≡◌, true, ◌≤◌, ◌<◌, length};
 ghost use Rattle.laws.specs.Lists.{one};
 ghost use Rattle.model.specs.Map.{map_long, wire, sound_map, written};

@@ -12,27 +12,27 @@ use Rattle.gate_sound.proofs.Sizes.{thirty}
 use Rattle.registers.proofs.map_wire.Statement.{statement}
 use Rattle.registers.proofs.map_wire.Tie as tie
 
-abbrev start : tie.After-map-refusal → tie.Start
+abbrev start : tie.After-map_refusal-no → tie.Start
 start d = d.before.before.before.before
 
-none : (e : tie.Else1) → let s = start e.before in
-    after_gate s.args.gate.now s.args.gate-f.now (λ n. map_refusal n s.args.map.now) ≡ 0
-none e = sym e.before.map-refusal.ensures ∙ e.if1.false
+none : (e : tie.Else-no-ne0) → let s = start e.before in
+    after_gate s.args.gate.now s.args.gate_f.now (λ n. map_refusal n s.args.map.now) ≡ 0
+none e = sym e.before.map_refusal-no.ensures ∙ e.if-no-ne0.false
 
-map-refusal-requires : tie.Need-map-refusal-requires
+map-refusal-requires : tie.Need-map_refusal-no-requires
 map-refusal-requires c κs = search rules
 
-returns : tie.Need-returns
+returns : tie.Need-returns-then-no-ne0
 unfolding map_wire_call
 returns c = let d = c.before in
     let s = start d in
-    refused d.map-refusal.result (after_gate s.args.gate.now s.args.gate-f.now (λ n. map_refusal n s.args.map.now))
-    (one (wire (get_or s.args.gate.now 0 0) s.args.map.now)) _ d.map-refusal.ensures c.if1.true
+    refused d.map_refusal-no.result (after_gate s.args.gate.now s.args.gate_f.now (λ n. map_refusal n s.args.map.now))
+    (one (wire (get_or s.args.gate.now 0 0) s.args.map.now)) _ d.map_refusal-no.ensures c.if-no-ne0.true
 
-shared-slice-read-wide : tie.Need-shared-slice-read-wide
+shared-slice-read-wide : tie.Need-bounds-gate-0
 shared-slice-read-wide c = let e = c.before in
     let s = start e.before in
-    omega (arith, thirty s.args.gate.now s.args.gate-f.now (lent-gate s.args.gate.now s.args.gate-f.now s.args.map.now (λ n. map_refusal n s.args.map.now) (none e)))
+    omega (arith, thirty s.args.gate.now s.args.gate_f.now (lent-gate s.args.gate.now s.args.gate_f.now s.args.map.now (λ n. map_refusal n s.args.map.now) (none e)))
 
 wide-requires : tie.Need-wide-requires
 wide-requires c κs = search rules
@@ -40,21 +40,21 @@ wide-requires c κs = search rules
 wire-requires : tie.Need-wire-requires
 wire-requires c κs = let e = c.before.before in
     let s = start e.before in
-    let g = lent_map s.args.gate.now s.args.gate-f.now s.args.map.now (none e) in (
+    let g = lent_map s.args.gate.now s.args.gate_f.now s.args.map.now (none e) in (
       omega (arith, g.0, c.wide.ensures),
       omega (arith, g.1, c.wide.ensures),
       g.2 ∙ ap map_long (sym c.wide.ensures),
       ap (λ (n : ℕ). sound_map n s.args.map.now) c.wide.ensures ∙ g.3,
     )
 
-returns-2 : tie.Need-returns-2
+returns-2 : tie.Need-returns
 unfolding map_wire_call
 returns-2 c = let w = c.before in
     let e = w.before.before in
     let s = start e.before in
-    accepted (after_gate s.args.gate.now s.args.gate-f.now (λ n. map_refusal n s.args.map.now)) c.wire.result
+    accepted (after_gate s.args.gate.now s.args.gate_f.now (λ n. map_refusal n s.args.map.now)) c.wire.result
     (one (wire (get_or s.args.gate.now 0 0) s.args.map.now)) _ (sym (none e))
     (c.wire.ensures ∙ ap (λ (n : ℕ). one (wire n s.args.map.now)) w.wide.ensures)
 
-pub map-wire-spec : {M : Type 1} → statement M
-map-wire-spec = tie.close (tie.spec map-refusal-requires returns shared-slice-read-wide wide-requires wire-requires returns-2)
+pub map_wire_spec : {M : Type 1} → statement M
+map_wire_spec = tie.close (tie.spec map-refusal-requires returns shared-slice-read-wide wide-requires wire-requires returns-2)
