@@ -1,4 +1,6 @@
 // A fresh gate: its settings, each distinct length with nothing pushed, the floats 0, no rise floor used yet.
+#![tactic(auto)]
+
 ghost use Rattle.std.specs.Prelude.{◌≡◌, true, ◌&&◌, ◌||◌, [], ◌-◌, ◌*◌, ◌<◌, ◌≤◌, length, get_or};
 ghost use Rattle.model.specs.Gate.{distinct};
 ghost use Rattle.model.specs.GateCalls.{good_lengths, good_level, absent, stored as storedAs, gate_make_refusal, gate_new_call};
