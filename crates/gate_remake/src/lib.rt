@@ -1,4 +1,6 @@
 // Document 02, R-14: a gate remade with new levels. Its n and its lengths stay, the rest is fresh, as making with those settings leaves it.
+#![tactic(auto)]
+
 ghost use Rattle.std.specs.Prelude.{◌≡◌, ◌≤◌, length, get_or};
 ghost use Rattle.laws.specs.Lists.{tab};
 ghost use Rattle.model.specs.GateStores.{m_at};

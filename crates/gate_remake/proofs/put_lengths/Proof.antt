@@ -9,54 +9,54 @@ use borrow.Author.Rules.{rules}
 use Rattle.gate_remake.proofs.put_lengths.Statement.{statement}
 use Rattle.gate_remake.proofs.put_lengths.Tie as tie
 
-abbrev invariant-loop : tie.invariant-loop
+abbrev invariant-loop : tie.invariant-loop-j
 invariant-loop gate lengths₀ j₀ lengths j = Filled lengths₀ (m_at gate) j lengths
 
-abbrev decreases-loop : tie.decreases-loop
+abbrev decreases-loop : tie.decreases-loop-j
 decreases-loop gate lengths₀ j₀ lengths j = length lengths₀ - j
 
-loop-holds : tie.Need-loop-init invariant-loop decreases-loop
+loop-holds : tie.Need-loop-j-init invariant-loop decreases-loop
 loop-holds c = begins _ _
 
-mul-lengths : tie.Need-overflow-mul-lengths invariant-loop decreases-loop
+mul-lengths : tie.Need-overflow_mul-lengths invariant-loop decreases-loop
 mul-lengths c = omega arith
 
-add-lengths : tie.Need-overflow-add-lengths invariant-loop decreases-loop
+add-lengths : tie.Need-overflow_add-lengths invariant-loop decreases-loop
 add-lengths c = omega arith
 
-mul-lengths-2 : tie.Need-overflow-mul-lengths-2 invariant-loop decreases-loop
+mul-lengths-2 : tie.Need-offset_bounds-gate-j invariant-loop decreases-loop
 mul-lengths-2 c = omega arith
 
-shared-slice-read-lengths : tie.Need-shared-slice-read-lengths invariant-loop decreases-loop
+shared-slice-read-lengths : tie.Need-bounds-gate-j invariant-loop decreases-loop
 shared-slice-read-lengths c = omega arith
 
-mul-lengths-3 : tie.Need-overflow-mul-lengths-3 invariant-loop decreases-loop
+mul-lengths-3 : tie.Need-offset_bounds-lengths-j invariant-loop decreases-loop
 mul-lengths-3 c = search rules
 
-slice-write-lengths : tie.Need-slice-write-lengths invariant-loop decreases-loop
+slice-write-lengths : tie.Need-bounds-lengths-j invariant-loop decreases-loop
 slice-write-lengths c = search rules
 
-add-j : tie.Need-overflow-add-j invariant-loop decreases-loop
+add-j : tie.Need-overflow_add-j invariant-loop decreases-loop
 add-j c = search rules
 
-loop-less : tie.Need-loop-smaller invariant-loop decreases-loop
+loop-less : tie.Need-loop-j-smaller invariant-loop decreases-loop
 loop-less c = search rules
 
-loop-again : tie.Need-loop-preserved invariant-loop decreases-loop
+loop-again : tie.Need-loop-j-preserved invariant-loop decreases-loop
 loop-again c = let l = c.before.before in
     let s = l.before in
-    turns s.args.lengths.now (m_at s.args.gate.now) l.loop.j l.loop.lengths (m_at s.args.gate.now l.loop.j) l.loop.invariant (omega arith) refl
+    turns s.args.lengths.now (m_at s.args.gate.now) l.loop-j.j l.loop-j.lengths (m_at s.args.gate.now l.loop-j.j) l.loop-j.invariant (omega arith) refl
 
-same_length : tie.Need-same-length invariant-loop decreases-loop
+same_length : tie.Need-shape_of-lengths invariant-loop decreases-loop
 same_length c = search rules
 
 returns : tie.Need-returns invariant-loop decreases-loop
 returns c = let l = c.before in
     let s = l.before in
-    done s.args.lengths.now (m_at s.args.gate.now) l.loop.j l.loop.lengths l.loop.invariant (omega arith)
+    done s.args.lengths.now (m_at s.args.gate.now) l.loop-j.j l.loop-j.lengths l.loop-j.invariant (omega arith)
 
-pub put-lengths-spec : {M : Type 1} → statement M
-put-lengths-spec =
+pub put_lengths_spec : {M : Type 1} → statement M
+put_lengths_spec =
     tie.close
     (tie.spec
     invariant-loop
