@@ -10,18 +10,18 @@ use borrow.Author.Rules.{rules}
 use Rattle.decibels.proofs.power_db.Statement.{statement}
 use Rattle.decibels.proofs.power_db.Tie as tie
 
-slice-aggregate-hop-db : tie.Need-slice-aggregate-hop-db
+slice-aggregate-hop-db : tie.Need-slice_bounds-hop_db-end
 slice-aggregate-hop-db c = search rules
 
-hop-db-requires : tie.Need-hop-db-requires
+hop-db-requires : tie.Need-hop_db-db-requires
 hop-db-requires c κs = search rules
 
-array-read-result : tie.Need-array-read-result
+array-read-result : tie.Need-bounds-db-0
 array-read-result c = search rules
 
 returns : tie.Need-returns
 unfolding decibels
-returns c = sym (get_or-take 1 c.hop-db.result 0 nan (omega arith)) ∙ ap (λ (l : List Float). get_or l 0 nan) c.hop-db.ensures
+returns c = sym (get_or-take 1 c.hop_db-db.result 0 nan (omega arith)) ∙ ap (λ (l : List Float). get_or l 0 nan) c.hop_db-db.ensures
 
-pub power-db-spec : {M : Type 1} → statement M
-power-db-spec = tie.close (tie.spec slice-aggregate-hop-db hop-db-requires array-read-result returns)
+pub power_db_spec : {M : Type 1} → statement M
+power_db_spec = tie.close (tie.spec slice-aggregate-hop-db hop-db-requires array-read-result returns)

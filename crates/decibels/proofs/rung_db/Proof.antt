@@ -8,7 +8,7 @@ use Rattle.model.specs.Decibels.{rung_db}
 use Rattle.decibels.proofs.rung_db.Statement.{statement}
 use Rattle.decibels.proofs.rung_db.Tie as tie
 
-int-to-float-result : tie.Need-int-to-float-result
+int-to-float-result : tie.Need-int_to_float-result
 unfolding in_float
 int-to-float-result c = le→leb c.before.args.r (2 ^ 53) (omega arith)
 
@@ -16,5 +16,5 @@ returns : tie.Need-returns
 unfolding rung_db
 returns c = refl
 
-pub rung-db-spec : {M : Type 1} → statement M
-rung-db-spec = tie.close (tie.spec int-to-float-result returns)
+pub rung_db_spec : {M : Type 1} → statement M
+rung_db_spec = tie.close (tie.spec int-to-float-result returns)
