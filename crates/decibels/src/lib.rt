@@ -1,4 +1,6 @@
 // Document 02, R-13: the dB of linear powers, by the ladder.
+#![tactic(auto)]
+
 ghost use Rattle.std.specs.Prelude.{◌≡◌, ◌<◌, ◌≤◌, length, take};
 ghost use Rattle.model.specs.Layout.{rung_count};
 ghost use Rattle.model.specs.Decibels.{rung_db, power_db, decibels};
