@@ -6,13 +6,13 @@ use borrow.Author.Rules.{rules}
 use Rattle.reference.proofs.power_above.Statement.{statement}
 use Rattle.reference.proofs.power_above.Tie as tie
 
-add-power-at : tie.Need-overflow-add-power-at
+add-power-at : tie.Need-overflow_add-k
 add-power-at c = search rules
 
-rem-power-at : tie.Need-nonzero-rem-power-at
+rem-power-at : tie.Need-nonzero_rem-k
 rem-power-at c = search rules
 
-power-at-requires : tie.Need-power-at-requires
+power-at-requires : tie.Need-power_at-requires
 power-at-requires c κs =
     let a = c.before.args in
     omega (arith, mod-lt (a.k + a.d) {m = a.n} (omega arith))
@@ -20,5 +20,5 @@ power-at-requires c κs =
 returns : tie.Need-returns
 returns c = search rules
 
-pub power-above-spec : {M : Type 1} → statement M
-power-above-spec = tie.close (tie.spec add-power-at rem-power-at power-at-requires returns)
+pub power_above_spec : {M : Type 1} → statement M
+power_above_spec = tie.close (tie.spec add-power-at rem-power-at power-at-requires returns)
