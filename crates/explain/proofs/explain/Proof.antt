@@ -20,20 +20,20 @@ refused q r x e h = refused-by q x h ∙ ap (λ (n : ℕ). explained_of n x) e
 known : (q r : ℕ) (y x : Explanation) → q ≡ r → q ≡ 0 → y ≡ x → Answer.By y ≡ explained_of r x
 known q r y x e h d = ap Answer.By d ∙ ap (λ (n : ℕ). explained_of n x) (sym h ∙ e)
 
-read-refusal-requires : tie.Need-read-refusal-requires
+read-refusal-requires : tie.Need-read_refusal-no-requires
 read-refusal-requires c κs = search rules
 
-returns : tie.Need-returns
+returns : tie.Need-returns-then-no-ne0
 unfolding explained
-returns c = refused _ _ _ c.before.read-refusal.ensures c.if1.true
+returns c = refused _ _ _ c.before.read_refusal-no.ensures c.if-no-ne0.true
 
-explanation-at-requires : tie.Need-explanation-at-requires
-explanation-at-requires c κs = readable _ _ _ (sym c.before.read-refusal.ensures ∙ c.if1.false)
+explanation-at-requires : tie.Need-explanation_at-requires
+explanation-at-requires c κs = readable _ _ _ (sym c.before.read_refusal-no.ensures ∙ c.if-no-ne0.false)
 
-returns-2 : tie.Need-returns-2
+returns-2 : tie.Need-returns
 unfolding explained
 returns-2 c = let e = c.before in
-    known _ _ _ _ e.before.read-refusal.ensures e.if1.false c.explanation-at.ensures
+    known _ _ _ _ e.before.read_refusal-no.ensures e.if-no-ne0.false c.explanation_at.ensures
 
-pub explain-spec : {M : Type 1} → statement M
-explain-spec = tie.close (tie.spec read-refusal-requires returns explanation-at-requires returns-2)
+pub explain_spec : {M : Type 1} → statement M
+explain_spec = tie.close (tie.spec read-refusal-requires returns explanation-at-requires returns-2)

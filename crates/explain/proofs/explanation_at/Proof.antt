@@ -10,13 +10,13 @@ use borrow.Author.Rules.{rules}
 use Rattle.explain.proofs.explanation_at.Statement.{statement}
 use Rattle.explain.proofs.explanation_at.Tie as tie
 
-sources-at-requires : tie.Need-sources-at-requires
+sources-at-requires : tie.Need-sources_at-x-requires
 sources-at-requires c κs = search rules
 
-effective-origin-requires : tie.Need-effective-origin-requires
+effective-origin-requires : tie.Need-effective_origin-effective-requires
 effective-origin-requires c κs = search rules
 
-rise-origin-requires : tie.Need-rise-origin-requires
+rise-origin-requires : tie.Need-rise_origin-rise-requires
 rise-origin-requires c κs = search rules
 
 -- a rule asked with what was gathered
@@ -29,10 +29,10 @@ returns : tie.Need-returns
 unfolding explanation_at
 returns c = let e = c.before in
     let g = e.before in
-    let effective = e.effective-origin.ensures ∙ asked effective_origin _ _ g.sources-at.result g.sources-at.ensures in
-    let rise = c.rise-origin.ensures ∙ asked rise_origin _ _ g.sources-at.result g.sources-at.ensures in
+    let effective = e.effective_origin-effective.ensures ∙ asked effective_origin _ _ g.sources_at-x.result g.sources_at-x.ensures in
+    let rise = c.rise_origin-rise.ensures ∙ asked rise_origin _ _ g.sources_at-x.result g.sources_at-x.ensures in
     λ j. record { effective = effective j; rise = rise j }
 
-pub explanation-at-spec : {M : Type 1} → statement M
-explanation-at-spec =
+pub explanation_at_spec : {M : Type 1} → statement M
+explanation_at_spec =
     tie.close (tie.spec sources-at-requires effective-origin-requires rise-origin-requires returns)
