@@ -24,24 +24,24 @@ module _ (u : List ℕ) (f : List Float) (k start len : ℕ) where
   unfolding ring_answered ring_start ring_length
   some a h e = rw (h, e)
 
-read-refusal-requires : tie.Need-read-refusal-requires
+read-refusal-requires : tie.Need-read_refusal-no-requires
 read-refusal-requires c κs = search rules
 
-returns : tie.Need-returns
+returns : tie.Need-returns-then-no-ne0
 returns c = let q = c.before in
     let s = q.before.before.before in
-    none s.args.bank.now s.args.bank-f.now s.args.k s.args.start.now s.args.len.now q.read-refusal.result q.read-refusal.ensures c.if1.true
+    none s.args.bank.now s.args.bank_f.now s.args.k s.args.start.now s.args.len.now q.read_refusal-no.result q.read_refusal-no.ensures c.if-no-ne0.true
 
-ring-start-requires : tie.Need-ring-start-requires
+ring-start-requires : tie.Need-ring_start-requires
 ring-start-requires c κs = let s = c.before.before.before.before in
-    let r = readable s.args.bank.now s.args.bank-f.now s.args.k (sym c.before.read-refusal.ensures ∙ c.if1.false) in
+    let r = readable s.args.bank.now s.args.bank_f.now s.args.k (sym c.before.read_refusal-no.ensures ∙ c.if-no-ne0.false) in
     (r.below, r.high, r.long)
 
-returns-2 : tie.Need-returns-2
+returns-2 : tie.Need-returns
 returns-2 c = let e = c.before in
     let s = e.before.before.before.before in
-    some s.args.bank.now s.args.bank-f.now s.args.k s.args.start.now s.args.len.now c.ring-start.result (sym e.before.read-refusal.ensures ∙ e.if1.false) c.ring-start.ensures.0
+    some s.args.bank.now s.args.bank_f.now s.args.k s.args.start.now s.args.len.now c.ring_start.result (sym e.before.read_refusal-no.ensures ∙ e.if-no-ne0.false) c.ring_start.ensures.0
 
-pub ring-answer-spec : {M : Type 1} → statement M
-ring-answer-spec =
+pub ring_answer_spec : {M : Type 1} → statement M
+ring_answer_spec =
     tie.close (tie.spec read-refusal-requires returns ring-start-requires returns-2)

@@ -9,19 +9,19 @@ use borrow.Author.Rules.{rules}
 use Rattle.answers.proofs.explained.explained_answer.Statement.{statement}
 use Rattle.answers.proofs.explained.explained_answer.Tie as tie
 
-enum-known-explained : tie.Need-enum-known-explained
+enum-known-explained : tie.Need-enum_known-explained
 enum-known-explained c = search rules
 
-effective-number-requires : tie.Need-effective-number-requires
+effective-number-requires : tie.Need-effective_number-requires
 effective-number-requires c κs = search rules
 
-effective-db-requires : tie.Need-effective-db-requires
+effective-db-requires : tie.Need-effective_db-requires
 effective-db-requires c κs = search rules
 
-rise-number-requires : tie.Need-rise-number-requires
+rise-number-requires : tie.Need-rise_number-requires
 rise-number-requires c κs = search rules
 
-rise-db-requires : tie.Need-rise-db-requires
+rise-db-requires : tie.Need-rise_db-requires
 rise-db-requires c κs = search rules
 
 -- four answers of the origins, put together
@@ -30,27 +30,27 @@ four : (a : ℕ) (x : Float) (b : ℕ) (y : Float) (e : Explanation) → a ≡ e
     → ◌≡◌ {A = ℕ × ℕ × Float × ℕ × Float} (0, a, x, b, y) (explanation_written e)
 four a x b y e p q r s = λ j. (0, p j, q j, r j, s j)
 
-returns : tie.Need-returns
+returns : tie.Need-returns-in-By
 unfolding explained_answered
 returns c = let r = c.before in
     let d = r.before in
     let n = d.before in
     let t = n.before.before in
     let a = t.before.before.args in
-    four _ _ _ _ t.explained.given.0.0 n.effective-number.ensures d.effective-db.ensures r.rise-number.ensures c.rise-db.ensures
-    ∙ ap (explained_answered a.effective-origin.now a.effective.now a.rise-origin.now a.rise.now) (sym t.explained.given.1)
+    four _ _ _ _ t.explained-1.given.0.0 n.effective_number.ensures d.effective_db.ensures r.rise_number.ensures c.rise_db.ensures
+    ∙ ap (explained_answered a.effective-origin.now a.effective.now a.rise-origin.now a.rise.now) (sym t.explained-1.given.1)
 
-enum-known-explained-2 : tie.Need-enum-known-explained-2
+enum-known-explained-2 : tie.Need-enum_known-explained-in-Refused-1
 enum-known-explained-2 c = search rules
 
-returns-2 : tie.Need-returns-2
+returns-2 : tie.Need-returns-in-Refused
 unfolding explained_answered
 returns-2 c = let t = c.before in
     let a = t.before.before.args in
-    ap (explained_answered a.effective-origin.now a.effective.now a.rise-origin.now a.rise.now) (sym t.explained2.given.1)
+    ap (explained_answered a.effective-origin.now a.effective.now a.rise-origin.now a.rise.now) (sym t.explained-in-Refused-1.given.1)
 
-pub explained-answer-spec : {M : Type 1} → statement M
-explained-answer-spec =
+pub explained_answer_spec : {M : Type 1} → statement M
+explained_answer_spec =
     tie.close
     (tie.spec
     enum-known-explained
