@@ -18,88 +18,88 @@ use Rattle.bank_floors.proofs.block_floors.Tie as tie
 abbrev floor_of : List Float → ℕ → ℕ → Float
 floor_of f n i = median (block i (part n n f))
 
-abbrev invariant-loop : tie.invariant-loop
+abbrev invariant-loop : tie.invariant-loop-i
 invariant-loop bank-f₀ bank n bs end i₀ bank-f i = (i ≤ bs) × (bank-f ≡ splice (4 * n) i bank-f₀ (tab i (floor_of bank-f₀ n))) × (length bank-f ≡ length bank-f₀)
 
-abbrev decreases-loop : tie.decreases-loop
+abbrev decreases-loop : tie.decreases-loop-i
 decreases-loop bank-f₀ bank n bs end i₀ bank-f i = bs - i
 
-fit : (s : tie.Start invariant-loop decreases-loop) → Fits s.args.bank.now s.args.bank-f.now s.args.n
-fit s = fits s.args.bank.now s.args.bank-f.now s.args.n s.requires.0 s.requires.1
+fit : (s : tie.Start invariant-loop decreases-loop) → Fits s.args.bank.now s.args.bank_f.now s.args.n
+fit s = fits s.args.bank.now s.args.bank_f.now s.args.n s.requires.0 s.requires.1
 
-add-blocks : tie.Need-overflow-add-blocks invariant-loop decreases-loop
+add-blocks : tie.Need-overflow_add-blocks invariant-loop decreases-loop
 add-blocks c = search rules
 
-add-end : tie.Need-overflow-add-end invariant-loop decreases-loop
+add-end : tie.Need-overflow_add-end invariant-loop decreases-loop
 add-end c = search rules
 
-loop-holds : tie.Need-loop-init invariant-loop decreases-loop
+loop-holds : tie.Need-loop-i-init invariant-loop decreases-loop
 loop-holds c =
     let s = c.before.before in
-    (search rules, fill_begins (4 * s.args.n) s.args.bank-f.now (floor_of s.args.bank-f.now s.args.n), refl)
+    (search rules, fill_begins (4 * s.args.n) s.args.bank_f.now (floor_of s.args.bank_f.now s.args.n), refl)
 
-mul-block-median : tie.Need-overflow-mul-block-median invariant-loop decreases-loop
+mul-block-median : tie.Need-offset_bounds-bank_f-n invariant-loop decreases-loop
 mul-block-median c = search rules
 
-sub-block-median : tie.Need-overflow-sub-block-median invariant-loop decreases-loop
+sub-block-median : tie.Need-slice_bounds-block_median-count invariant-loop decreases-loop
 sub-block-median c = search rules
 
-part-block-median-start : tie.Need-slice-bounds-block-median-start invariant-loop decreases-loop
+part-block-median-start : tie.Need-slice_bounds-block_median-start invariant-loop decreases-loop
 part-block-median-start c = search rules
 
-part-block-median-end : tie.Need-slice-bounds-block-median-end invariant-loop decreases-loop
+part-block-median-end : tie.Need-slice_bounds-block_median-end invariant-loop decreases-loop
 part-block-median-end c = search rules
 
-block-median-requires : tie.Need-block-median-requires invariant-loop decreases-loop
+block-median-requires : tie.Need-block_median-med-requires invariant-loop decreases-loop
 block-median-requires c κs =
     let l = c.before.before.before in
     let s = l.before.before.before in
-    rw (width s.args.n s.args.n) (omega (arith, length_part s.args.n s.args.n l.loop.bank-f (omega (arith, l.loop.invariant.2, (fit s).long_f))))
+    rw (width s.args.n s.args.n) (omega (arith, length_part s.args.n s.args.n l.loop-i.bank_f (omega (arith, l.loop-i.invariant.2, (fit s).long_f))))
 
-mul-bank-f : tie.Need-overflow-mul-bank-f invariant-loop decreases-loop
+mul-bank-f : tie.Need-overflow_mul-bank_f invariant-loop decreases-loop
 mul-bank-f c = search rules
 
-add-bank-f : tie.Need-overflow-add-bank-f invariant-loop decreases-loop
+add-bank-f : tie.Need-overflow_add-bank_f invariant-loop decreases-loop
 add-bank-f c = search rules
 
-mul-bank-f-2 : tie.Need-overflow-mul-bank-f-2 invariant-loop decreases-loop
+mul-bank-f-2 : tie.Need-offset_bounds-bank_f-n-in-loop-i invariant-loop decreases-loop
 mul-bank-f-2 c = search rules
 
-slice-write-bank-f : tie.Need-slice-write-bank-f invariant-loop decreases-loop
+slice-write-bank-f : tie.Need-bounds-bank_f-n invariant-loop decreases-loop
 slice-write-bank-f c = search rules
 
-add-i : tie.Need-overflow-add-i invariant-loop decreases-loop
+add-i : tie.Need-overflow_add-i invariant-loop decreases-loop
 add-i c = search rules
 
-loop-less : tie.Need-loop-smaller invariant-loop decreases-loop
+loop-less : tie.Need-loop-i-smaller invariant-loop decreases-loop
 loop-less c = search rules
 
-loop-again : tie.Need-loop-preserved invariant-loop decreases-loop
+loop-again : tie.Need-loop-i-preserved invariant-loop decreases-loop
 loop-again c =
     let l = c.before.before.before.before in
     let s = l.before.before.before in
     let u = s.args.bank.now in
-    let f = s.args.bank-f.now in
+    let f = s.args.bank_f.now in
     let n = s.args.n in
-    let same = usable-lent u f s.requires.0 n s.requires.1 l.loop.bank-f (tab l.loop.i (floor_of f n)) l.loop.i l.loop.invariant.0 (length-tab l.loop.i (floor_of f n)) l.loop.invariant.1 in (
+    let same = usable-lent u f s.requires.0 n s.requires.1 l.loop-i.bank_f (tab l.loop-i.i (floor_of f n)) l.loop-i.i l.loop-i.invariant.0 (length-tab l.loop-i.i (floor_of f n)) l.loop-i.invariant.1 in (
       omega arith,
-      fill-next (4 * n) l.loop.i (4 * n + l.loop.i) f l.loop.bank-f (floor_of f n) c.block-median.result refl (omega (arith, (fit s).long_f)) l.loop.invariant.1
-          (c.block-median.ensures ∙ ap (λ (x : List Float). median (block l.loop.i x)) same),
-      length-set l.loop.bank-f _ _ ∙ l.loop.invariant.2,
+      fill-next (4 * n) l.loop-i.i (4 * n + l.loop-i.i) f l.loop-i.bank_f (floor_of f n) c.block_median-med.result refl (omega (arith, (fit s).long_f)) l.loop-i.invariant.1
+          (c.block_median-med.ensures ∙ ap (λ (x : List Float). median (block l.loop-i.i x)) same),
+      length-set l.loop-i.bank_f _ _ ∙ l.loop-i.invariant.2,
     )
 
-same_length : tie.Need-same-length invariant-loop decreases-loop
+same_length : tie.Need-shape_of-bank_f invariant-loop decreases-loop
 same_length c = search rules
 
 returns : tie.Need-returns invariant-loop decreases-loop
 returns c =
     let l = c.before in
     let s = l.before.before.before in
-    block-done s.args.bank.now s.args.bank-f.now s.requires.0 s.args.n s.requires.1 l.loop.bank-f
-    (l.loop.invariant.1 ∙ ap (λ (i : ℕ). splice (4 * s.args.n) i s.args.bank-f.now (tab i (floor_of s.args.bank-f.now s.args.n))) (le_antisymm l.loop.invariant.0 c.loop-test.false))
+    block-done s.args.bank.now s.args.bank_f.now s.requires.0 s.args.n s.requires.1 l.loop-i.bank_f
+    (l.loop-i.invariant.1 ∙ ap (λ (i : ℕ). splice (4 * s.args.n) i s.args.bank_f.now (tab i (floor_of s.args.bank_f.now s.args.n))) (le_antisymm l.loop-i.invariant.0 c.loop-i-test.false))
 
-pub block-floors-spec : {M : Type 1} → statement M
-block-floors-spec =
+pub block_floors_spec : {M : Type 1} → statement M
+block_floors_spec =
     tie.close
     (tie.spec
     invariant-loop
