@@ -1,4 +1,6 @@
 // Document 02, R-4: where the floors of a channel of a lent bank come from.
+#![tactic(auto)]
+
 ghost use Rattle.std.specs.Prelude.{◌≡◌};
 ghost use Rattle.model.specs.Stores.{bank_of};
 ghost use Rattle.channel_readings.specs.Readable.{Readable};

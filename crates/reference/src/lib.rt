@@ -1,4 +1,6 @@
 // Document 01, "Readings": the spectral reference of a channel of a sound bank.
+#![tactic(auto)]
+
 ghost use Rattle.std.specs.Prelude.{◌≡◌, ◌+◌, ◌*◌, ◌≤◌, ◌<◌, length, get_or};
 ghost use Rattle.laws.specs.Lists.{part};
 ghost use Rattle.model.specs.Numbers.{f0};
