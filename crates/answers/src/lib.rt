@@ -1,4 +1,6 @@
 // A reading taken apart for C: the answer's number, and what is written behind the caller's references, only where the number is 0.
+#![tactic(auto)]
+
 pub mod explained;
 
 ghost use Rattle.std.specs.Prelude.{◌≡◌};

@@ -1,4 +1,6 @@
 // The stored floors of a slow hop: what changes the f64 store after the pushes.
+#![tactic(auto)]
+
 ghost use Rattle.std.specs.Prelude.{◌≡◌, get_or};
 ghost use Rattle.model.specs.Bank.{raw_floors};
 ghost use Rattle.model.specs.Stores.{bank_floats, bank_of};

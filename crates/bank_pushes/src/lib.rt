@@ -1,4 +1,6 @@
 // A slow hop's seeds and pushes: what changes the u16 store.
+#![tactic(auto)]
+
 ghost use Rattle.std.specs.Prelude.{◌≡◌, ◌+◌, ◌*◌, ◌<◌, ◌≤◌, length, get_or};
 ghost use Rattle.laws.specs.Lists.{part, splice};
 ghost use Rattle.model.specs.Layout.{bins, ring_len, channel_len};

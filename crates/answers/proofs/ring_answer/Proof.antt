@@ -28,19 +28,14 @@ read-refusal-requires : tie.Need-read_refusal-no-requires
 read-refusal-requires c κs = search rules
 
 returns : tie.Need-returns-then-no-ne0
-returns c = let q = c.before in
-    let s = q.before.before.before in
-    none s.args.bank.now s.args.bank_f.now s.args.k s.args.start.now s.args.len.now q.read_refusal-no.result q.read_refusal-no.ensures c.if-no-ne0.true
+returns c = none c.args.bank.now c.args.bank_f.now c.args.k c.args.start.now c.args.len.now c.read_refusal-no.result c.read_refusal-no.ensures c.if-no-ne0.true
 
 ring-start-requires : tie.Need-ring_start-requires
-ring-start-requires c κs = let s = c.before.before.before.before in
-    let r = readable s.args.bank.now s.args.bank_f.now s.args.k (sym c.before.read_refusal-no.ensures ∙ c.if-no-ne0.false) in
+ring-start-requires c κs = let r = readable c.args.bank.now c.args.bank_f.now c.args.k (sym c.read_refusal-no.ensures ∙ c.if-no-ne0.false) in
     (r.below, r.high, r.long)
 
 returns-2 : tie.Need-returns
-returns-2 c = let e = c.before in
-    let s = e.before.before.before.before in
-    some s.args.bank.now s.args.bank_f.now s.args.k s.args.start.now s.args.len.now c.ring_start.result (sym e.before.read_refusal-no.ensures ∙ e.if-no-ne0.false) c.ring_start.ensures.0
+returns-2 c = some c.args.bank.now c.args.bank_f.now c.args.k c.args.start.now c.args.len.now c.ring_start.result (sym c.read_refusal-no.ensures ∙ c.if-no-ne0.false) c.ring_start.ensures.0
 
 pub ring_answer_spec : {M : Type 1} → statement M
 ring_answer_spec =

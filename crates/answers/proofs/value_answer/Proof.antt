@@ -9,15 +9,13 @@ enum-known-reading : tie.Need-enum_known-reading
 enum-known-reading c = search rules
 
 returns : tie.Need-returns-in-Value
-returns c = let t = c.before in
-    ap (answered t.before.before.args.value.now) (sym t.reading-1.given.1)
+returns c = ap (answered c.args.value.now) (sym c.in-Value.is)
 
 enum-known-reading-2 : tie.Need-enum_known-reading-in-Refused-1
 enum-known-reading-2 c = search rules
 
 returns-2 : tie.Need-returns-in-Refused
-returns-2 c = let t = c.before in
-    ap (answered t.before.before.args.value.now) (sym t.reading-in-Refused-1.given.1)
+returns-2 c = ap (answered c.args.value.now) (sym c.in-Refused.is)
 
 pub value_answer_spec : {M : Type 1} → statement M
 value_answer_spec = tie.close (tie.spec enum-known-reading returns enum-known-reading-2 returns-2)

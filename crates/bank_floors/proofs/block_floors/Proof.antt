@@ -35,8 +35,7 @@ add-end c = search rules
 
 loop-holds : tie.Need-loop-i-init invariant-loop decreases-loop
 loop-holds c =
-    let s = c.before.before in
-    (search rules, fill_begins (4 * s.args.n) s.args.bank_f.now (floor_of s.args.bank_f.now s.args.n), refl)
+    (search rules, fill_begins (4 * c.args.n) c.args.bank_f.now (floor_of c.args.bank_f.now c.args.n), refl)
 
 mul-block-median : tie.Need-offset_bounds-bank_f-n invariant-loop decreases-loop
 mul-block-median c = search rules
@@ -52,9 +51,7 @@ part-block-median-end c = search rules
 
 block-median-requires : tie.Need-block_median-med-requires invariant-loop decreases-loop
 block-median-requires c κs =
-    let l = c.before.before.before in
-    let s = l.before.before.before in
-    rw (width s.args.n s.args.n) (omega (arith, length_part s.args.n s.args.n l.loop-i.bank_f (omega (arith, l.loop-i.invariant.2, (fit s).long_f))))
+    rw (width c.args.n c.args.n) (omega (arith, length_part c.args.n c.args.n c.loop-i.bank_f (omega (arith, c.loop-i.invariant.2, (fit c.before.before.before.before.before).long_f))))
 
 mul-bank-f : tie.Need-overflow_mul-bank_f invariant-loop decreases-loop
 mul-bank-f c = search rules
@@ -76,16 +73,14 @@ loop-less c = search rules
 
 loop-again : tie.Need-loop-i-preserved invariant-loop decreases-loop
 loop-again c =
-    let l = c.before.before.before.before in
-    let s = l.before.before.before in
-    let u = s.args.bank.now in
-    let f = s.args.bank_f.now in
-    let n = s.args.n in
-    let same = usable-lent u f s.requires.0 n s.requires.1 l.loop-i.bank_f (tab l.loop-i.i (floor_of f n)) l.loop-i.i l.loop-i.invariant.0 (length-tab l.loop-i.i (floor_of f n)) l.loop-i.invariant.1 in (
+    let u = c.args.bank.now in
+    let f = c.args.bank_f.now in
+    let n = c.args.n in
+    let same = usable-lent u f c.requires.0 n c.requires.1 c.loop-i.bank_f (tab c.loop-i.i (floor_of f n)) c.loop-i.i c.loop-i.invariant.0 (length-tab c.loop-i.i (floor_of f n)) c.loop-i.invariant.1 in (
       omega arith,
-      fill-next (4 * n) l.loop-i.i (4 * n + l.loop-i.i) f l.loop-i.bank_f (floor_of f n) c.block_median-med.result refl (omega (arith, (fit s).long_f)) l.loop-i.invariant.1
-          (c.block_median-med.ensures ∙ ap (λ (x : List Float). median (block l.loop-i.i x)) same),
-      length-set l.loop-i.bank_f _ _ ∙ l.loop-i.invariant.2,
+      fill-next (4 * n) c.loop-i.i (4 * n + c.loop-i.i) f c.loop-i.bank_f (floor_of f n) c.block_median-med.result refl (omega (arith, (fit c.before.before.before.before.before.before).long_f)) c.loop-i.invariant.1
+          (c.block_median-med.ensures ∙ ap (λ (x : List Float). median (block c.loop-i.i x)) same),
+      length-set c.loop-i.bank_f _ _ ∙ c.loop-i.invariant.2,
     )
 
 same_length : tie.Need-shape_of-bank_f invariant-loop decreases-loop
@@ -93,10 +88,8 @@ same_length c = search rules
 
 returns : tie.Need-returns invariant-loop decreases-loop
 returns c =
-    let l = c.before in
-    let s = l.before.before.before in
-    block-done s.args.bank.now s.args.bank_f.now s.requires.0 s.args.n s.requires.1 l.loop-i.bank_f
-    (l.loop-i.invariant.1 ∙ ap (λ (i : ℕ). splice (4 * s.args.n) i s.args.bank_f.now (tab i (floor_of s.args.bank_f.now s.args.n))) (le_antisymm l.loop-i.invariant.0 c.loop-i-test.false))
+    block-done c.args.bank.now c.args.bank_f.now c.requires.0 c.args.n c.requires.1 c.loop-i.bank_f
+    (c.loop-i.invariant.1 ∙ ap (λ (i : ℕ). splice (4 * c.args.n) i c.args.bank_f.now (tab i (floor_of c.args.bank_f.now c.args.n))) (le_antisymm c.loop-i.invariant.0 c.loop-i-test.false))
 
 pub block_floors_spec : {M : Type 1} → statement M
 block_floors_spec =

@@ -9,7 +9,6 @@ use Rattle.laws.specs.Lists.{splice, tab}
 use Rattle.laws.proofs.Lists.{width}
 use Rattle.laws.proofs.Tabs.{fill_begins, fill-next, length-tab}
 use Rattle.model.specs.Layout.{channel_len, block_channels}
-use Rattle.model.specs.Ring.{since}
 use Rattle.model.specs.Bank.{rise_floor}
 use Rattle.model.specs.Stores.{base}
 use Rattle.bank_stages.proofs.Loops.{Fits, fits, lent, rise_at_of, rise-done, rise-reads}

@@ -19,8 +19,8 @@ invariant-loop bank₀ bank-f power-db n a k₀ bank k = (k ≤ n) × (bank ≡ 
 abbrev decreases-loop : tie.decreases-loop-k
 decreases-loop bank₀ bank-f power-db n a k₀ bank k = n - k
 
-fit : (s : tie.Start invariant-loop decreases-loop) → Fits s.args.bank_1.now s.args.bank_f.now (length s.args.power_db.now)
-fit s = fits s.args.bank_1.now s.args.bank_f.now (length s.args.power_db.now) s.requires.0 s.requires.1
+fit : (s : tie.Start invariant-loop decreases-loop) → Fits s.args.bank.now s.args.bank_f.now (length s.args.power_db.now)
+fit s = fits s.args.bank.now s.args.bank_f.now (length s.args.power_db.now) s.requires.0 s.requires.1
 
 add-base : tie.Need-overflow_add-base invariant-loop decreases-loop
 add-base c = search rules
@@ -32,7 +32,7 @@ loop-holds : tie.Need-loop-k-init invariant-loop decreases-loop
 loop-holds c =
     let s = c.before.before.before in
     let db = s.args.power_db.now in
-    (search rules, parts-begin (base (length db)) channel_len s.args.bank_1.now (pushed_of s.args.bank_1.now db (length db)), refl)
+    (search rules, parts-begin (base (length db)) channel_len s.args.bank.now (pushed_of s.args.bank.now db (length db)), refl)
 
 add-quiet : tie.Need-overflow_add-quiet invariant-loop decreases-loop
 add-quiet c = search rules
@@ -60,7 +60,7 @@ push-at-requires c κs =
     let l = c.before.before.before.before in
     let s = l.before.before.before.before in
     let db = s.args.power_db.now in
-    turn-asks s.args.bank_1.now s.args.bank_f.now (length db) (fit s) db l.loop-k.k c.before.before.before.loop-k-test.true l.loop-k.bank-1 l.loop-k.invariant.1
+    turn-asks s.args.bank.now s.args.bank_f.now (length db) (fit s) db l.loop-k.k c.before.before.before.loop-k-test.true l.loop-k.bank l.loop-k.invariant.1
 
 add-k : tie.Need-overflow_add-k invariant-loop decreases-loop
 add-k c = search rules
@@ -75,7 +75,7 @@ loop-again c =
     let s = l.before.before.before.before in
     let db = s.args.power_db.now in
     let h = p.before.before.before.before.loop-k-test.true in
-    let d = turn-done s.args.bank_1.now s.args.bank_f.now (length db) (fit s) db l.loop-k.k h l.loop-k.bank-1 l.loop-k.invariant.1 p.push_at.new.0 p.push_at.ensures in
+    let d = turn-done s.args.bank.now s.args.bank_f.now (length db) (fit s) db l.loop-k.k h l.loop-k.bank l.loop-k.invariant.1 p.push_at.new.bank p.push_at.ensures in
     (omega arith, d, search rules)
 
 same_length : tie.Need-shape_of-bank invariant-loop decreases-loop
@@ -85,9 +85,9 @@ returns : tie.Need-returns invariant-loop decreases-loop
 returns c =
     let l = c.before in
     let s = l.before.before.before.before in
-    let u = s.args.bank_1.now in
+    let u = s.args.bank.now in
     let db = s.args.power_db.now in
-    push-done u s.args.bank_f.now s.requires.0 (length db) s.requires.1 db refl l.loop-k.bank-1
+    push-done u s.args.bank_f.now s.requires.0 (length db) s.requires.1 db refl l.loop-k.bank
     (l.loop-k.invariant.1 ∙ ap (λ (k : ℕ). splice (base (length db)) (channel_len * k) u (joined (tab k (pushed_of u db (length db))))) (le_antisymm l.loop-k.invariant.0 c.loop-k-test.false))
 
 pub push_all_spec : {M : Type 1} → statement M

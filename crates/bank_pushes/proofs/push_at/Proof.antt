@@ -29,7 +29,7 @@ push-requires : tie.Need-push-requires
 push-requires c κs =
     let s = c.before.before.before in
     let b = c.before.bin_index-bin.ensures in
-    rw (width s.args.a channel_len) ((length_part s.args.a channel_len s.args.bank_1.now s.requires.0, s.requires.1), omega (arith, b, bin-below s.args.p))
+    rw (width s.args.a channel_len) ((length_part s.args.a channel_len s.args.bank.now s.requires.0, s.requires.1), omega (arith, b, bin-below s.args.p))
 
 same_length : tie.Need-shape_of-bank
 same_length c = search rules

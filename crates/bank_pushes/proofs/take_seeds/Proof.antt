@@ -50,7 +50,7 @@ seed-blocks-requires c κs =
     let s = c.before.before.before.before.before in
     let db = s.args.power_db.now in
     let B = blocks (length db) in
-    rw (width 3 B, width (4 * length db + B) B) (seeds-ask s.args.bank_1.now s.args.bank_f_1.now s.requires.0 (length db) s.requires.1 db refl)
+    rw (width 3 B, width (4 * length db + B) B) (seeds-ask s.args.bank.now s.args.bank_f.now s.requires.0 (length db) s.requires.1 db refl)
 
 same_length : tie.Need-shape_of-bank
 same_length c = search rules
@@ -65,7 +65,7 @@ returns c =
     let db = s.args.power_db.now in
     let B = blocks (length db) in
     let e = rw (width 3 B, width (4 * length db + B) B) at q.seed_blocks.ensures in
-    rw (width 3 B, width (4 * length db + B) B) (seeds-done s.args.bank_1.now s.args.bank_f_1.now s.requires.0 (length db) s.requires.1 db refl q.seed_blocks.new.0 q.seed_blocks.new.1.0 e)
+    rw (width 3 B, width (4 * length db + B) B) (seeds-done s.args.bank.now s.args.bank_f.now s.requires.0 (length db) s.requires.1 db refl q.seed_blocks.new.seeds q.seed_blocks.new.sums e)
 
 pub take_seeds_spec : {M : Type 1} → statement M
 take_seeds_spec =

@@ -32,22 +32,17 @@ four a x b y e p q r s = λ j. (0, p j, q j, r j, s j)
 
 returns : tie.Need-returns-in-By
 unfolding explained_answered
-returns c = let r = c.before in
-    let d = r.before in
-    let n = d.before in
-    let t = n.before.before in
-    let a = t.before.before.args in
-    four _ _ _ _ t.explained-1.given.0.0 n.effective_number.ensures d.effective_db.ensures r.rise_number.ensures c.rise_db.ensures
-    ∙ ap (explained_answered a.effective-origin.now a.effective.now a.rise-origin.now a.rise.now) (sym t.explained-1.given.1)
+returns c = let a = c.args in
+    four _ _ _ _ c.in-By.x c.effective_number.ensures c.effective_db.ensures c.rise_number.ensures c.rise_db.ensures
+    ∙ ap (explained_answered a.effective_origin.now a.effective.now a.rise_origin.now a.rise.now) (sym c.in-By.is)
 
 enum-known-explained-2 : tie.Need-enum_known-explained-in-Refused-1
 enum-known-explained-2 c = search rules
 
 returns-2 : tie.Need-returns-in-Refused
 unfolding explained_answered
-returns-2 c = let t = c.before in
-    let a = t.before.before.args in
-    ap (explained_answered a.effective-origin.now a.effective.now a.rise-origin.now a.rise.now) (sym t.explained-in-Refused-1.given.1)
+returns-2 c = let a = c.args in
+    ap (explained_answered a.effective_origin.now a.effective.now a.rise_origin.now a.rise.now) (sym c.in-Refused.is)
 
 pub explained_answer_spec : {M : Type 1} → statement M
 explained_answer_spec =
