@@ -9,49 +9,49 @@ use borrow.Author.Rules.{rules}
 use Rattle.gate_marks.proofs.judge.Statement.{statement}
 use Rattle.gate_marks.proofs.judge.Tie as tie
 
-shared-slice-read-if1 : tie.Need-shared-slice-read-if1
+shared-slice-read-if1 : tie.Need-bounds-gate-1
 shared-slice-read-if1 c = search rules
 
 clear-requires : tie.Need-clear-requires
 clear-requires c κs = search rules
 
-clear-requires-2 : tie.Need-clear-requires-2
+clear-requires-2 : tie.Need-clear-requires-then-gate-eq0
 clear-requires-2 c κs = search rules
 
-same_length : tie.Need-same-length
+same_length : tie.Need-shape_of-rise-then-gate-eq0
 same_length c = search rules
 
-same-length-2 : tie.Need-same-length-2
+same-length-2 : tie.Need-shape_of-drop-then-gate-eq0
 same-length-2 c = search rules
 
-returns : tie.Need-returns
+returns : tie.Need-returns-then-gate-eq0
 returns c = let d = c.before.before in
     let r = d.before.before.before.before in
     let t = r.before.before in
     let s = t.before.before.before.before.before.before.before.before in
     let gu = s.args.gate.now in
-    let gf = s.args.gate-f.now in
-    let B = bank_of s.args.bank.now s.args.bank-f.now in
-    let z : (gate_of gu gf).started ≡ 0 = started_of gu gf ∙ t.if1.true in
+    let gf = s.args.gate_f.now in
+    let B = bank_of s.args.bank.now s.args.bank_f.now in
+    let z : (gate_of gu gf).started ≡ 0 = started_of gu gf ∙ t.if-gate-eq0.true in
     record {
-      rises = rises-cleared (gate_of gu gf) B (length s.args.rise.now) r.clear.new.0 (s.requires.1 ∙ sym (n-of gu gf)) z r.clear.ensures;
-      drops = drops-cleared (gate_of gu gf) B (length s.args.drop.now) d.clear2.new.0 (s.requires.2 ∙ sym (n-of gu gf)) z d.clear2.ensures;
+      rises = rises-cleared (gate_of gu gf) B (length s.args.rise_1.now) r.clear.new.0 (s.requires.1 ∙ sym (n-of gu gf)) z r.clear.ensures;
+      drops = drops-cleared (gate_of gu gf) B (length s.args.drop_1.now) d.clear-then-gate-eq0.new.0 (s.requires.2 ∙ sym (n-of gu gf)) z d.clear-then-gate-eq0.ensures;
     }
 
 mark-requires : tie.Need-mark-requires
 mark-requires c κs = search rules
 
-same-length-3 : tie.Need-same-length-3
+same-length-3 : tie.Need-shape_of-rise
 same-length-3 c = search rules
 
-same-length-4 : tie.Need-same-length-4
+same-length-4 : tie.Need-shape_of-drop
 same-length-4 c = search rules
 
-returns-2 : tie.Need-returns-2
+returns-2 : tie.Need-returns
 returns-2 c = search rules
 
-pub judge-spec : {M : Type 1} → statement M
-judge-spec =
+pub judge_spec : {M : Type 1} → statement M
+judge_spec =
     tie.close
     (tie.spec
     shared-slice-read-if1

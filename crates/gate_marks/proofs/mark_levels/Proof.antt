@@ -26,110 +26,110 @@ rise_of bu bf gu gf k = one (early_rise (gate_of gu gf) (bank_of bu bf) k)
 abbrev drop_of : List ℕ → List Float → List ℕ → List Float → ℕ → ℕ
 drop_of bu bf gu gf k = one (is_drop_at (gate_of gu gf) (bank_of bu bf) k)
 
-abbrev invariant-loop : tie.invariant-loop
+abbrev invariant-loop : tie.invariant-loop-k
 invariant-loop bank bank-f gate gate-f rise₀ drop₀ n early off k₀ rise drop k =
     Filled rise₀ (rise_of bank bank-f gate gate-f) k rise × Filled drop₀ (drop_of bank bank-f gate gate-f) k drop
 
-abbrev decreases-loop : tie.decreases-loop
+abbrev decreases-loop : tie.decreases-loop-k
 decreases-loop bank bank-f gate gate-f rise₀ drop₀ n early off k₀ rise drop k = length rise₀ - k
 
-abbrev start : tie.At-loop invariant-loop decreases-loop → tie.Start invariant-loop decreases-loop
+abbrev start : tie.At-loop-k invariant-loop decreases-loop → tie.Start invariant-loop decreases-loop
 start l = l.before.before.before.before.before.before.before.before.before.before
 
 -- there is a channel k
-below : (c : tie.In-loop invariant-loop decreases-loop) → c.before.loop.k < get_or (start c.before).args.gate.now 0 0
-below c = omega (arith, c.loop-test.true, (start c.before).pre.1)
+below : (c : tie.In-loop-k invariant-loop decreases-loop) → c.before.loop-k.k < get_or (start c.before).args.gate.now 0 0
+below c = omega (arith, c.loop-k-test.true, (start c.before).requires.1)
 
-shared-slice-read-early : tie.Need-shared-slice-read-early invariant-loop decreases-loop
+shared-slice-read-early : tie.Need-bounds-gate-4 invariant-loop decreases-loop
 shared-slice-read-early c = search rules
 
-shared-slice-read-level : tie.Need-shared-slice-read-level invariant-loop decreases-loop
+shared-slice-read-level : tie.Need-bounds-gate-3 invariant-loop decreases-loop
 shared-slice-read-level c = search rules
 
-level-requires : tie.Need-level-requires invariant-loop decreases-loop
+level-requires : tie.Need-level-off-requires invariant-loop decreases-loop
 level-requires c κs = search rules
 
-loop-holds : tie.Need-loop-init invariant-loop decreases-loop
+loop-holds : tie.Need-loop-k-init invariant-loop decreases-loop
 loop-holds c = (begins _ _, begins _ _)
 
-effective-at-requires : tie.Need-effective-at-requires invariant-loop decreases-loop
+effective-at-requires : tie.Need-effective_at-effective-requires invariant-loop decreases-loop
 effective-at-requires c κs = let s = start c.before in
-    from-ready s.args.bank.now s.args.bank-f.now c.before.loop.k s.pre.0.bank (omega (arith, below c, s.pre.0.same))
+    from-ready s.args.bank.now s.args.bank_f.now c.before.loop-k.k s.requires.0.bank (omega (arith, below c, s.requires.0.same))
 
-mul-smoothed : tie.Need-overflow-mul-smoothed invariant-loop decreases-loop
+mul-smoothed : tie.Need-offset_bounds-gate_f-k invariant-loop decreases-loop
 mul-smoothed c = search rules
 
-shared-slice-read-smoothed : tie.Need-shared-slice-read-smoothed invariant-loop decreases-loop
+shared-slice-read-smoothed : tie.Need-bounds-gate_f-k invariant-loop decreases-loop
 shared-slice-read-smoothed c = let i = c.before.before in
     let s = start i.before in
-    omega (arith, smooth-within s.args.gate.now s.args.gate-f.now s.pre.0.gate, below i)
+    omega (arith, smooth-within s.args.gate.now s.args.gate_f.now s.requires.0.gate, below i)
 
-early-rise-requires : tie.Need-early-rise-requires invariant-loop decreases-loop
+early-rise-requires : tie.Need-early_rise-rises-requires invariant-loop decreases-loop
 early-rise-requires c κs = search rules
 
-cast-rise : tie.Need-overflow-cast-rise invariant-loop decreases-loop
+cast-rise : tie.Need-overflow_cast-rise invariant-loop decreases-loop
 cast-rise c = search rules
 
-slice-write-rise : tie.Need-slice-write-rise invariant-loop decreases-loop
+slice-write-rise : tie.Need-bounds-rise-k invariant-loop decreases-loop
 slice-write-rise c = search rules
 
-drop-at-requires : tie.Need-drop-at-requires invariant-loop decreases-loop
+drop-at-requires : tie.Need-drop_at-drops-requires invariant-loop decreases-loop
 drop-at-requires c κs = search rules
 
-cast-drop : tie.Need-overflow-cast-drop invariant-loop decreases-loop
+cast-drop : tie.Need-overflow_cast-drop invariant-loop decreases-loop
 cast-drop c = search rules
 
-slice-write-drop : tie.Need-slice-write-drop invariant-loop decreases-loop
+slice-write-drop : tie.Need-bounds-drop-k invariant-loop decreases-loop
 slice-write-drop c = search rules
 
-add-k : tie.Need-overflow-add-k invariant-loop decreases-loop
+add-k : tie.Need-overflow_add-k invariant-loop decreases-loop
 add-k c = search rules
 
-loop-less : tie.Need-loop-smaller invariant-loop decreases-loop
+loop-less : tie.Need-loop-k-smaller invariant-loop decreases-loop
 loop-less c = search rules
 
-loop-again : tie.Need-loop-preserved invariant-loop decreases-loop
+loop-again : tie.Need-loop-k-preserved invariant-loop decreases-loop
 loop-again c = let r = c.before in
     let e = r.before.before in
     let i = e.before in
     let l = i.before in
     let s = start l in
     let bu = s.args.bank.now in
-    let bf = s.args.bank-f.now in
+    let bf = s.args.bank_f.now in
     let gu = s.args.gate.now in
-    let gf = s.args.gate-f.now in (
-      turns s.args.rise.now (rise_of bu bf gu gf) l.loop.k l.loop.rise (bool_byte r.early-rise.result) l.loop.invariant.0 (omega arith)
-          (flag r.early-rise.result
+    let gf = s.args.gate_f.now in (
+      turns s.args.rise.now (rise_of bu bf gu gf) l.loop-k.k l.loop-k.rise (bool_byte r.early_rise-rises.result) l.loop-k.invariant.0 (omega arith)
+          (flag r.early_rise-rises.result
           ∙ ap one
-          (r.early-rise.ensures
-          ∙ early-is gu gf (bank_of bu bf) l.loop.k s.pre.0.gate (below i) e.effective-at.result e.effective-at.ensures)),
-      turns s.args.drop.now (drop_of bu bf gu gf) l.loop.k l.loop.drop (bool_byte c.drop_at.result) l.loop.invariant.1 (omega arith)
-          (flag c.drop_at.result
+          (r.early_rise-rises.ensures
+          ∙ early-is gu gf (bank_of bu bf) l.loop-k.k s.requires.0.gate (below i) e.effective_at-effective.result e.effective_at-effective.ensures)),
+      turns s.args.drop.now (drop_of bu bf gu gf) l.loop-k.k l.loop-k.drop (bool_byte c.drop_at-drops.result) l.loop-k.invariant.1 (omega arith)
+          (flag c.drop_at-drops.result
           ∙ ap one
-          (c.drop_at.ensures
-          ∙ ap (λ (x : Float). lt (get_or gf l.loop.k nan) (add binary64 e.effective-at.result x)) l.before.level.ensures
-          ∙ drop-is gu gf (bank_of bu bf) l.loop.k s.pre.0.gate (below i) e.effective-at.result e.effective-at.ensures)),
+          (c.drop_at-drops.ensures
+          ∙ ap (λ (x : Float). lt (get_or gf l.loop-k.k nan) (add binary64 e.effective_at-effective.result x)) l.before.level-off.ensures
+          ∙ drop-is gu gf (bank_of bu bf) l.loop-k.k s.requires.0.gate (below i) e.effective_at-effective.result e.effective_at-effective.ensures)),
     )
 
-same_length : tie.Need-same-length invariant-loop decreases-loop
+same_length : tie.Need-shape_of-rise invariant-loop decreases-loop
 same_length c = search rules
 
-same-length-2 : tie.Need-same-length-2 invariant-loop decreases-loop
+same-length-2 : tie.Need-shape_of-drop invariant-loop decreases-loop
 same-length-2 c = search rules
 
 returns : tie.Need-returns invariant-loop decreases-loop
 returns c = let l = c.before in
     let s = start l in
     let bu = s.args.bank.now in
-    let bf = s.args.bank-f.now in
+    let bf = s.args.bank_f.now in
     let gu = s.args.gate.now in
-    let gf = s.args.gate-f.now in (
-      done s.args.rise.now (rise_of bu bf gu gf) l.loop.k l.loop.rise l.loop.invariant.0 (omega arith),
-      done s.args.drop.now (drop_of bu bf gu gf) l.loop.k l.loop.drop l.loop.invariant.1 (omega (arith, s.pre.1, s.pre.2)),
+    let gf = s.args.gate_f.now in (
+      done s.args.rise.now (rise_of bu bf gu gf) l.loop-k.k l.loop-k.rise l.loop-k.invariant.0 (omega arith),
+      done s.args.drop.now (drop_of bu bf gu gf) l.loop-k.k l.loop-k.drop l.loop-k.invariant.1 (omega (arith, s.requires.1, s.requires.2)),
     )
 
-pub mark-levels-spec : {M : Type 1} → statement M
-mark-levels-spec =
+pub mark_levels_spec : {M : Type 1} → statement M
+mark_levels_spec =
     tie.close
     (tie.spec
     invariant-loop
