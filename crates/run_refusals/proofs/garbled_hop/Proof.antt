@@ -11,14 +11,14 @@ use Rattle.run_refusals.proofs.garbled_hop.Tie as tie
 past : (p q : Bool) → p ≡ true → (p && q) ≡ q
 past p q h = rw h
 
-returns : tie.Need-returns
-returns c = sym (and-false-l _ _ (ne_eqb _ 0 c.if1.true))
+returns : tie.Need-returns-then-phase-ne0
+returns c = sym (and-false-l _ _ (ne_eqb _ 0 c.if-phase-ne0.true))
 
 garbled-requires : tie.Need-garbled-requires
 garbled-requires c κs = search rules
 
-returns-2 : tie.Need-returns-2
-returns-2 c = c.garbled.ensures ∙ sym (past _ _ (eq-eqb _ 0 c.before.if1.false))
+returns-2 : tie.Need-returns
+returns-2 c = c.garbled.ensures ∙ sym (past _ _ (eq-eqb _ 0 c.before.if-phase-ne0.false))
 
-pub garbled-hop-spec : {M : Type 1} → statement M
-garbled-hop-spec = tie.close (tie.spec returns garbled-requires returns-2)
+pub garbled_hop_spec : {M : Type 1} → statement M
+garbled_hop_spec = tie.close (tie.spec returns garbled-requires returns-2)
