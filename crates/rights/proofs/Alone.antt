@@ -1,10 +1,9 @@
 -- R-14: keepers change nothing, leaders gates and maps alone. Assumes nothing.
-use mathlib.Core.Path.{◌≡◌, refl, sym, ap, ◌∙◌}
+use mathlib.Core.Path.{◌≡◌, refl, ap, ◌∙◌}
 use mathlib.Core.List.{List, [], ◌∷◌}
 use Rattle.roles.specs.Rights.{keeper, leader, as_role}
-use Rattle.rights.specs.AllCalls
 use Rattle.rights.specs.AllCalls.{Lent, Deed, does, leaves, leaves_by, bank_new, bank_update, bank_update_holding_reference, bank_update_worst, channel_floor_db, dispatch, effective_floor_db, ema_rise, explain, floors, gate_hold, gate_hold_map, gate_new, gate_remake, gate_update, gate_update_map, log_channels, log_combine, log_read, log_write, map_new, map_read, map_wire, map_write, ring, rise_floor_db, smoothed_db, spectral_reference, worst_floor, worst_new, bank_update_linear, gate_update_linear, bank_update_linear_worst, gate_update_linear_map, receive}
-use Rattle.rights.specs.Alone.{KeepersAlone, turns, only_turns, SameBut, LeadersLeave, LeadersAlone}
+use Rattle.rights.specs.Alone.{KeepersAlone, only_turns, SameBut, LeadersAlone}
 
 -- a keeper's call is stopped or only reads
 keeper-leaves : (e : Lent) (d : Deed) → leaves keeper e d ≡ e

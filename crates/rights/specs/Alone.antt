@@ -1,5 +1,5 @@
 -- Document 02, R-14: what keepers alone and leaders alone can change. The proofs are `keepers-alone` and `leaders-alone` in proofs/Alone.antt.
-use Rattle.std.specs.Prelude.{◌≡◌, Bool, true, false, cond, List, [], ◌∷◌, ℕ}
+use Rattle.std.specs.Prelude.{◌≡◌, Bool, true, false, cond, List, [], ◌∷◌}
 use Rattle.roles.specs.Rights.{keeper, leader}
 use Rattle.rights.specs.AllCalls.{Lent, Deed, leaves_by, bank_new, bank_update, bank_update_holding_reference, channel_floor_db, effective_floor_db, rise_floor_db, spectral_reference, floors, ring, explain, gate_new, gate_update, gate_hold, gate_remake, smoothed_db, ema_rise, log_write, log_channels, log_read, log_combine, worst_new, bank_update_worst, worst_floor, dispatch, map_new, gate_update_map, gate_hold_map, map_read, map_write, map_wire, bank_update_linear, gate_update_linear, bank_update_linear_worst, gate_update_linear_map, receive}
 

@@ -20,7 +20,7 @@ use Rattle.model.specs.Stores.{bank_of}
 use Rattle.model.proofs.GoodBanks.{ready}
 use Rattle.model.proofs.GoodGates.{gate-ready, n-of}
 use Rattle.stores.proofs.Banks.{at-least-three}
-use Rattle.run_model.specs.Runs.{Run, hops_from, hops_of, garbled_run, not_long, run_refusal, alone}
+use Rattle.run_model.specs.Runs.{Run, hops_from, garbled_run, not_long, run_refusal, alone}
 use Rattle.run_model.proofs.Taken.{fit_of}
 use Rattle.run_refusals.specs.Checks.{not_long_by, garbled_db, run_refusal_by}
 

@@ -1,6 +1,6 @@
 -- The refusals of a run as the code asks for them: by the number of hops, the dB, and the lengths of the other slices.
 -- `refusal-by` in proofs/Refuses.antt shows that it is `run_refusal`.
-use Rattle.std.specs.Prelude.{Bool, true, false, ◌&&◌, ◌||◌, List, ℕ, zero, suc, ◌+◌, ◌*◌, ◌%◌, eqb, length, get_or, take, drop, Float}
+use Rattle.std.specs.Prelude.{Bool, false, ◌&&◌, ◌||◌, List, ℕ, zero, suc, ◌+◌, ◌*◌, ◌%◌, eqb, length, get_or, take, drop, Float}
 use Rattle.laws.specs.Tests.{differ, first}
 use Rattle.model.specs.Layout.{decimation_hops}
 use Rattle.model.specs.Refusals.{garbled}

@@ -1,4 +1,6 @@
 // A run of hops: its refusals in their order, by the stores and the slices as lent.
+#![tactic(auto)]
+
 ghost use Rattle.std.specs.Prelude.{◌≡◌, not, ◌&&◌, ◌+◌, ◌*◌, ◌%◌, ◌<◌, eqb, length};
 ghost use Rattle.model.specs.Layout.{decimation_hops};
 ghost use Rattle.model.specs.Refusals.{garbled};

@@ -34,8 +34,8 @@ returns c = let d = c.before.before in
     let B = bank_of s.args.bank.now s.args.bank_f.now in
     let z : (gate_of gu gf).started ≡ 0 = started_of gu gf ∙ t.if-gate-eq0.true in
     record {
-      rises = rises-cleared (gate_of gu gf) B (length s.args.rise_1.now) r.clear.new.0 (s.requires.1 ∙ sym (n-of gu gf)) z r.clear.ensures;
-      drops = drops-cleared (gate_of gu gf) B (length s.args.drop_1.now) d.clear-then-gate-eq0.new.0 (s.requires.2 ∙ sym (n-of gu gf)) z d.clear-then-gate-eq0.ensures;
+      rises = rises-cleared (gate_of gu gf) B (length s.args.rise.now) r.clear.new.marks (s.requires.1 ∙ sym (n-of gu gf)) z r.clear.ensures;
+      drops = drops-cleared (gate_of gu gf) B (length s.args.drop.now) d.clear-then-gate-eq0.new.marks (s.requires.2 ∙ sym (n-of gu gf)) z d.clear-then-gate-eq0.ensures;
     }
 
 mark-requires : tie.Need-mark-requires

@@ -29,14 +29,14 @@ returns c = let w = c.before.before in
     let gf = s.args.gate_f.now in
     let G = gate_of gu gf in
     let B = bank_of s.args.bank.now s.args.bank_f.now in
-    let n = length s.args.rise_1.now in
+    let n = length s.args.rise.now in
     let z : G.started ≡ 0 → ⊥ = λ q. s.requires.1 (sym (started_of gu gf) ∙ q) in
     record {
       rises =
-          rises-marked G B n w.mark_windows.new.1.1.0 (s.requires.0.1 ∙ sym (n-of gu gf)) z
-          (both-tested G B n v.mark_levels.new.1.1.1.1.0 w.mark_windows.new.1.1.0 v.mark_levels.ensures.0 w.mark_windows.ensures);
+          rises-marked G B n w.mark_windows.new.rise (s.requires.0.1 ∙ sym (n-of gu gf)) z
+          (both-tested G B n v.mark_levels.new.rise w.mark_windows.new.rise v.mark_levels.ensures.0 w.mark_windows.ensures);
       drops =
-          drops-marked G B (length s.args.drop_1.now) v.mark_levels.new.1.1.1.1.1.0 (s.requires.0.2 ∙ sym (n-of gu gf)) z
+          drops-marked G B (length s.args.drop.now) v.mark_levels.new.drop (s.requires.0.2 ∙ sym (n-of gu gf)) z
           v.mark_levels.ensures.1;
     }
 

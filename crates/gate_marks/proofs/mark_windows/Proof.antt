@@ -41,7 +41,7 @@ F l = (start l).args.gate_f.now
 
 -- the marks before, and how many
 abbrev R : tie.At-loop-j invariant-loop decreases-loop → List ℕ
-R l = (start l).args.rise_1.now
+R l = (start l).args.rise.now
 
 abbrev N : tie.At-loop-j invariant-loop decreases-loop → ℕ
 N l = length (R l)
@@ -76,20 +76,20 @@ small c = let l = at-loop c in
 within : (c : tie.After-cursor-c invariant-loop decreases-loop)
     → (at-loop c).loop-j.at + (2 * c.cursor-c.result.m * N (at-loop c) + N (at-loop c) + N (at-loop c)) ≤ length (F (at-loop c))
 within c = let l = at-loop c in
-    lent-within (U l) (F l) (ready l) l.loop-j.j (more c.before) (F l) refl refl (N l) c.cursor-c.result.m l.loop-j.at (n_is l) (m-is c) l.loop-j.inv.1
+    lent-within (U l) (F l) (ready l) l.loop-j.j (more c.before) (F l) refl refl (N l) c.cursor-c.result.m l.loop-j.at (n_is l) (m-is c) l.loop-j.invariant.1
 
 -- the marks that the call leaves
 after : (c : tie.After-mark_look invariant-loop decreases-loop) → let l = at-loop c.before.before.before.before in
-    c.mark_look.new.1.1.1.0 ≡ tab (N l) (mark_after (U l) (F l) (R l) (l.loop-j.j + 1))
+    c.mark_look.new.rise ≡ tab (N l) (mark_after (U l) (F l) (R l) (l.loop-j.j + 1))
 after c = let a = c.before.before.before.before in
     let l = at-loop a in
     let t = thresholds-are (U l) (F l) (N l) (ready l) (n_is l) in
     let looks = lent-looks (U l) (F l) (ready l) l.loop-j.j (more a.before) (F l) refl refl (N l) l.loop-j.at a.cursor-c.result (n_is l)
-    a.cursor-c.ensures l.loop-j.inv.1 in
-    (rw l.loop-j.inv.2 at c.mark_look.ensures)
+    a.cursor-c.ensures l.loop-j.invariant.1 in
+    (rw l.loop-j.invariant.2 at c.mark_look.ensures)
     ∙ tab-ext (N l) _ _
-    (λ k _. ap (marked (get_or l.loop-j.rise-1 k 0)) (λ i. look_rises (n_is l i) (get_or (t i) k f0) k (looks i)))
-    ∙ one_more (U l) (F l) (R l) l.loop-j.j (N l) l.loop-j.rise-1 l.loop-j.inv.3
+    (λ k _. ap (marked (get_or l.loop-j.rise k 0)) (λ i. look_rises (n_is l i) (get_or (t i) k f0) k (looks i)))
+    ∙ one_more (U l) (F l) (R l) l.loop-j.j (N l) l.loop-j.rise l.loop-j.invariant.3
 
 shared-slice-read-wide : tie.Need-bounds-gate-5 invariant-loop decreases-loop
 shared-slice-read-wide c = search rules
@@ -103,7 +103,7 @@ sub-thresholds c = let s = c.before.before.before.before.before in
 
 loop-holds : tie.Need-loop-j-init invariant-loop decreases-loop
 loop-holds c = let s = c.before.before.before.before.before in
-    (search rules, s.requires.1, refl, none_yet s.args.gate.now s.args.gate_f.now s.args.rise_1.now)
+    (search rules, s.requires.1, refl, none_yet s.args.gate.now s.args.gate_f.now s.args.rise.now)
 
 cursor-requires : tie.Need-cursor-c-requires invariant-loop decreases-loop
 cursor-requires c κs = let l = c.before in
@@ -151,10 +151,10 @@ part-mark-look-end-2 c = search rules
 mark-look-requires : tie.Need-mark_look-requires invariant-loop decreases-loop
 mark-look-requires c κs = let a = c.before.before.before in
     let l = at-loop a in (
-      rw l.loop-j.inv.2
+      rw l.loop-j.invariant.2
           (lent_fits (U l) (F l) (ready l) l.loop-j.j (more a.before) (F l) refl refl (N l) a.cursor-c.result.m l.loop-j.at (n_is l) (m-is a)
-          l.loop-j.inv.1),
-      omega (arith, length_part (length (F l) - N l) (length (F l) - (length (F l) - N l)) (F l) (omega (arith, room l)), room l, l.loop-j.inv.2),
+          l.loop-j.invariant.1),
+      omega (arith, length_part (length (F l) - N l) (length (F l) - (length (F l) - N l)) (F l) (omega (arith, room l)), room l, l.loop-j.invariant.2),
     )
 
 add-j : tie.Need-overflow_add-j invariant-loop decreases-loop
@@ -169,7 +169,7 @@ loop-again c = let q = c.before.before in
     let l = at-loop a in
     let j = l.loop-j.j in (
       omega (arith, a.before.loop-j-test.true),
-      (λ i. l.loop-j.inv.1 i + look_size (n_is l i) (m-is a i)) ∙ ap (start_at (U l)) (sym (add-one j)),
+      (λ i. l.loop-j.invariant.1 i + look_size (n_is l i) (m-is a i)) ∙ ap (start_at (U l)) (sym (add-one j)),
       ap length (after q) ∙ length-tab (N l) (mark_after (U l) (F l) (R l) (j + 1)),
       after q,
     )

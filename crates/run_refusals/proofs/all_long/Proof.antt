@@ -1,6 +1,6 @@
 -- `run_refusals::all_long` meets its contract. Assumes nothing.
-use mathlib.Core.Path.{◌≡◌, sym, ◌∙◌}
-use mathlib.Core.Bool.{true}
+use mathlib.Core.Path.{ap, ◌≡◌, sym, ◌∙◌}
+use mathlib.Core.Bool.{not, true}
 use Prim.Native.Nat.{◌*◌}
 use lib.Dec.{eqb}
 use borrow.Author.Rules.{rules}
@@ -11,14 +11,14 @@ use Rattle.run_refusals.proofs.all_long.Tie as tie
 
 -- past the first test the dB are as long as the run
 long : (e : tie.Else-not-run_long) → let s = e.before.before in eqb s.args.power_db (s.args.hops * s.args.n) ≡ true
-long e = sym e.before.run_long.ensures ∙ not-false e.before.run_long.result e.if-not-run_long.false
+long e = sym e.before.run_long.ensures ∙ not-false e.before.run_long.result (ap not e.if-not-run_long.false)
 
 run-long-requires : tie.Need-run_long-requires
 run-long-requires c κs = search rules
 
 returns : tie.Need-returns-then-not-run_long
 returns c = let s = c.before.before.args in
-    db-not s.n s.hops s.power-db s.power s.rise s.drop (sym c.before.run_long.ensures ∙ not-true c.before.run_long.result c.if-not-run_long.true)
+    db-not s.n s.hops s.power_db s.power s.rise s.drop (sym c.before.run_long.ensures ∙ not-true c.before.run_long.result (ap not c.if-not-run_long.true))
 
 returns-2 : tie.Need-returns-then-power-power_db
 returns-2 c = power-not _ _ _ _ _ _ (long c.before) c.if-power-power_db.true

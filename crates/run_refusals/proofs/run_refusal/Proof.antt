@@ -33,7 +33,7 @@ long-is a = let w = a.before in
 clear : (f : tie.Else-not-all_long)
     → let s = (start f.before.before.before.before).args in
     not_long_by (get_or s.gate.now 0 0) s.hops (length s.power_db.now) s.power s.rise s.drop ≡ false
-clear f = sym (long-is f.before) ∙ f.if-not-all_long.false
+clear f = sym (long-is f.before) ∙ (ap not f.if-not-all_long.false)
 
 -- and the third
 garbled-is : (g : tie.After-garbled_run)
@@ -63,7 +63,7 @@ all-long-requires c κs = omega (arith, c.wide-n.ensures, (knows c.before.before
 returns-2 : tie.Need-returns-then-not-all_long
 unfolding run_refusal_by
 returns-2 c = let a = c.before in
-    goes_on _ _ _ (none a.before.before.before) (due _ 5 _ (sym (long-is a) ∙ c.if-not-all_long.true))
+    goes_on _ _ _ (none a.before.before.before) (due _ 5 _ (sym (long-is a) ∙ (ap not c.if-not-all_long.true)))
 
 shared-slice-read-garbled-run : tie.Need-bounds-bank-1
 shared-slice-read-garbled-run c = omega (arith, (knows c.before.before.before.before.before).three)
