@@ -1,4 +1,6 @@
 // The record of a run of hops: one call, with what is due.
+#![tactic(auto)]
+
 use low_first::byte_at;
 use replay_data::hop::fill_hop;
 use replay_data::list::{after, index};
