@@ -14,7 +14,7 @@ use Rattle.model.specs.Stores.{bank_of}
 use Rattle.model.specs.Refusals.{read_refusal}
 use Rattle.model.specs.Readings.{reading, effective_at, effective_reading}
 use Rattle.model.specs.declared.Reading.TheVariants as Read
-use Rattle.origins.specs.Origins.{effective_db, rise_db, later_of_min, later_of_max, seed_named, effective_origin, rise_origin, ofChannel, explanation_at, explained_of, explained_number, explained}
+use Rattle.origins.specs.Origins.{effective_db, rise_db, later_of_min, later_of_max, seed_named, effective_origin, rise_origin, of_channel, explanation_at, explained_of, explained_number, explained}
 use Rattle.origins.specs.Explains.{EffectiveNamed, RiseNamed, Named, RefusedAsRead, effective_of, rise_of, EffectiveExplained, RiseExplained}
 use Rattle.origins.specs.declared.EffectiveOrigin.TheVariants as E
 use Rattle.origins.specs.declared.RiseOrigin.TheVariants as R
@@ -225,13 +225,13 @@ rise-reads zero x v h = ap Read.Value h
 rise-reads (suc r) x v h = refl
 
 pub effective-explained : EffectiveExplained
-unfolding explained explanation_at ofChannel effective_reading effective_at
+unfolding explained explanation_at of_channel effective_reading effective_at
 effective-explained u f k =
     effective-reads (read_refusal u f k) (explanation_at (bank_of u f) k) (effective_at (bank_of u f) k)
     (effective-named _ _ _ _ _).carried
 
 pub rise-explained : RiseExplained
-unfolding explained explanation_at ofChannel
+unfolding explained explanation_at of_channel
 rise-explained u f k =
-    rise-reads (read_refusal u f k) (explanation_at (bank_of u f) k) (ofChannel rise_floor (bank_of u f) k)
+    rise-reads (read_refusal u f k) (explanation_at (bank_of u f) k) (of_channel rise_floor (bank_of u f) k)
     (rise-named _ _ _ _ _).carried

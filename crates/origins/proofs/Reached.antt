@@ -23,13 +23,13 @@ use Rattle.model.specs.Reach.{Stores, BankCall, update, stores_in, left, left_by
 use Rattle.model.proofs.GoodBanks.{bank-back, good-ready}
 use Rattle.model.proofs.FreshBanks.{good-fresh, good-step}
 use Rattle.model.proofs.Reach.{call-keeps}
-use Rattle.origins.specs.Origins.{ofChannel}
+use Rattle.origins.specs.Origins.{of_channel}
 use Rattle.origins.specs.Explains.{RiseReached}
 use Rattle.origins.proofs.Explains.{rise-explained}
 
 -- each stored rise floor is the one of document 01's formula
 abbrev Kept : FloorBank → Type 0
-Kept b = (k : ℕ) → k < b.n → rise_at b k ≡ ofChannel rise_floor b k
+Kept b = (k : ℕ) → k < b.n → rise_at b k ≡ of_channel rise_floor b k
 
 -- ---- a fresh bank, and a bank after an update
 
@@ -38,18 +38,18 @@ unfolding rise_floor effective_floor add lt is_nan neg of_bits
 fresh-floor = refl
 
 kept_fresh : (n : ℕ) → Kept (fresh_bank n)
-unfolding fresh_bank ofChannel fresh_channel
+unfolding fresh_bank of_channel fresh_channel
 kept_fresh n k h =
     let i : k / block_channels < blocks n = omega arith in
     simp (get_or-replicate {A = Float} n k hist_min f0 h, get_or-replicate n k fresh_channel fresh_channel h, get_or-replicate {A = Float} (blocks n) (k / block_channels) hist_min f0 i, get_or-replicate {A = ℕ} (blocks n) (k / block_channels) 0 0 i, get_or-replicate {A = Float} (blocks n) (k / block_channels) f0 f0 i)
     fresh-floor
 
 kept-slow : (b : FloorBank) (h : Hop) → Kept (slow_step b h)
-unfolding slow_step rise_floors ofChannel
+unfolding slow_step rise_floors of_channel
 kept-slow b h k l = get_d-tab b.n _ k f0 l
 
 kept_step : (p : ℕ) (b : FloorBank) (h : Hop) → Kept b → Kept (step_at p b h)
-unfolding fast_step ofChannel
+unfolding fast_step of_channel
 kept_step zero b h kept = kept-slow b h
 kept_step (suc p) b h kept = kept
 

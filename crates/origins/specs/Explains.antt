@@ -11,7 +11,7 @@ use Rattle.model.specs.Readings.{reading, effective_reading, rise_reading}
 use Rattle.model.specs.Reach.{Stores, BankCall, left_by, stores_of}
 use Rattle.model.specs.declared.Reading.{Reading}
 use Rattle.model.specs.declared.Reading.TheVariants as Read
-use Rattle.origins.specs.Origins.{effective_number, effective_db, rise_number, rise_db, effective_origin, rise_origin, ofChannel, explained_number, explained}
+use Rattle.origins.specs.Origins.{effective_number, effective_db, rise_number, rise_db, effective_origin, rise_origin, of_channel, explained_number, explained}
 use Rattle.origins.specs.declared.EffectiveOrigin.{EffectiveOrigin}
 use Rattle.origins.specs.declared.EffectiveOrigin.TheVariants as E
 use Rattle.origins.specs.declared.RiseOrigin.{RiseOrigin}
@@ -81,7 +81,7 @@ EffectiveExplained = (u : List ℕ) (f : List Float) (k : ℕ) → effective_of 
 -- .. and the rise floor explained is document 01's rise floor, worked out from them
 abbrev pub RiseExplained : Type 0
 RiseExplained =
-    (u : List ℕ) (f : List Float) (k : ℕ) → rise_of (explained u f k) ≡ reading (read_refusal u f k) (ofChannel rise_floor (bank_of u f) k)
+    (u : List ℕ) (f : List Float) (k : ℕ) → rise_of (explained u f k) ≡ reading (read_refusal u f k) (of_channel rise_floor (bank_of u f) k)
 
 -- From a fresh bank, after any list of calls, it is the rise reading, too, which is read as stored
 abbrev pub rise_reading_of : Stores → ℕ → Reading

@@ -78,13 +78,13 @@ rise_origin u f e pushes sum =
 -- ---- for a channel, the explanation: both origins
 
 -- what document 01's formulas for a channel's floors are asked with
-unfoldable pub ofChannel {ℓ} : {A : Type ℓ} → (Float → Float → ℕ → ℕ → Float → A) → FloorBank → ℕ → A
-ofChannel rule b k =
+unfoldable pub of_channel {ℓ} : {A : Type ℓ} → (Float → Float → ℕ → ℕ → Float → A) → FloorBank → ℕ → A
+of_channel rule b k =
     rule (get_or b.usable k f0) (get_or b.block_floor (k / block_channels) f0) (since (channel b k)) (get_or b.seeds (k / block_channels) 0)
     (get_or b.seed_sum (k / block_channels) f0)
 
 unfoldable pub explanation_at : FloorBank → ℕ → Explanation
-explanation_at b k = record { effective = ofChannel effective_origin b k; rise = ofChannel rise_origin b k }
+explanation_at b k = record { effective = of_channel effective_origin b k; rise = of_channel rise_origin b k }
 
 -- ---- explained, or refused as a reading is
 

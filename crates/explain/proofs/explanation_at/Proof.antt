@@ -5,7 +5,7 @@ use lib.Ieee.{Float}
 use Rattle.model.specs.Bank.{FloorBank}
 use Rattle.channel_readings.specs.Sources.{sources_at}
 use Rattle.channel_readings.specs.declared.Sources.{Sources}
-use Rattle.origins.specs.Origins.{effective_origin, rise_origin, ofChannel, explanation_at}
+use Rattle.origins.specs.Origins.{effective_origin, rise_origin, of_channel, explanation_at}
 use borrow.Author.Rules.{rules}
 use Rattle.explain.proofs.explanation_at.Statement.{statement}
 use Rattle.explain.proofs.explanation_at.Tie as tie
@@ -21,8 +21,8 @@ rise-origin-requires c κs = search rules
 
 -- a rule asked with what was gathered
 asked : {A : Type 0} (rule : Float → Float → ℕ → ℕ → Float → A) (b : FloorBank) (k : ℕ) (x : Sources) → x ≡ sources_at b k
-    → rule x.usable x.block_floor x.since x.pushes x.sum ≡ ofChannel rule b k
-unfolding sources_at ofChannel
+    → rule x.usable x.block_floor x.since x.pushes x.sum ≡ of_channel rule b k
+unfolding sources_at of_channel
 asked rule b k x h = ap (λ (x : Sources). rule x.usable x.block_floor x.since x.pushes x.sum) h
 
 returns : tie.Need-returns
