@@ -9,61 +9,61 @@ use borrow.Author.Rules.{rules}
 use Rattle.gate.proofs.gate_update.Statement.{statement}
 use Rattle.gate.proofs.gate_update.Tie as tie
 
-abbrev start : tie.After-gate-update-refusal → tie.Start
+abbrev start : tie.After-gate_update_refusal-refusal → tie.Start
 start q = q.before.before.before.before.before.before.before.before.before.before.before
 
 abbrev hop : tie.Start → GateHop
-hop s = record { db = s.args.power-db.now; power = s.args.power.now }
+hop s = record { db = s.args.power_db.now; power = s.args.power.now }
 
 -- past the test the update is not refused
-none : (e : tie.Else1)
+none : (e : tie.Else-refusal-ne0)
     → let s = start e.before in
-    gate_update_refusal s.args.bank.now s.args.bank-f.now s.args.gate.now s.args.gate-f.now (length (hop s).db) (length (hop s).power) (length s.args.rise.now) (length s.args.drop.now) ≡ 0
-none e = sym e.before.gate-update-refusal.ensures ∙ e.if1.false
+    gate_update_refusal s.args.bank.now s.args.bank_f.now s.args.gate_1.now s.args.gate_f_1.now (length (hop s).db) (length (hop s).power) (length s.args.rise_1.now) (length s.args.drop_1.now) ≡ 0
+none e = sym e.before.gate_update_refusal-refusal.ensures ∙ e.if-refusal-ne0.false
 
-asked : (e : tie.Else1)
+asked : (e : tie.Else-refusal-ne0)
     → let s = start e.before in
-    Takes s.args.bank.now s.args.bank-f.now s.args.gate.now s.args.gate-f.now (length (hop s).db) (length (hop s).power) (length s.args.rise.now) (length s.args.drop.now)
+    Takes s.args.bank.now s.args.bank_f.now s.args.gate_1.now s.args.gate_f_1.now (length (hop s).db) (length (hop s).power) (length s.args.rise_1.now) (length s.args.drop_1.now)
 asked e = let s = start e.before in
-    update-asked s.args.bank.now s.args.bank-f.now s.args.gate.now s.args.gate-f.now (length (hop s).db) (length (hop s).power) (length s.args.rise.now) (length s.args.drop.now) (none e)
+    update-asked s.args.bank.now s.args.bank_f.now s.args.gate_1.now s.args.gate_f_1.now (length (hop s).db) (length (hop s).power) (length s.args.rise_1.now) (length s.args.drop_1.now) (none e)
 
-gate-update-refusal-requires : tie.Need-gate-update-refusal-requires
+gate-update-refusal-requires : tie.Need-gate_update_refusal-refusal-requires
 gate-update-refusal-requires c κs = search rules
 
-same_length : tie.Need-same-length
+same_length : tie.Need-shape_of-gate-then-refusal-ne0
 same_length c = search rules
 
-same-length-2 : tie.Need-same-length-2
+same-length-2 : tie.Need-shape_of-gate_f-then-refusal-ne0
 same-length-2 c = search rules
 
-returns : tie.Need-returns
+returns : tie.Need-returns-then-refusal-ne0
 returns c = let q = c.before in
     let s = start q in
-    update-refused s.args.bank.now s.args.bank-f.now s.args.gate.now s.args.gate-f.now (hop s) s.args.rise.now s.args.drop.now q.gate-update-refusal.result q.gate-update-refusal.ensures c.if1.true
+    update-refused s.args.bank.now s.args.bank_f.now s.args.gate_1.now s.args.gate_f_1.now (hop s) s.args.rise_1.now s.args.drop_1.now q.gate_update_refusal-refusal.result q.gate_update_refusal-refusal.ensures c.if-refusal-ne0.true
 
-take-hop-requires : tie.Need-take-hop-requires
+take-hop-requires : tie.Need-take_hop-requires
 take-hop-requires c κs = asked c.before.before.before.before
 
-same-length-3 : tie.Need-same-length-3
+same-length-3 : tie.Need-shape_of-gate
 same-length-3 c = search rules
 
-same-length-4 : tie.Need-same-length-4
+same-length-4 : tie.Need-shape_of-gate_f
 same-length-4 c = search rules
 
-same-length-5 : tie.Need-same-length-5
+same-length-5 : tie.Need-shape_of-rise
 same-length-5 c = search rules
 
-same-length-6 : tie.Need-same-length-6
+same-length-6 : tie.Need-shape_of-drop
 same-length-6 c = search rules
 
-returns-2 : tie.Need-returns-2
+returns-2 : tie.Need-returns
 returns-2 c = let t = c.before.before.before.before.before.before.before.before in
     let e = t.before.before.before.before.before in
     let s = start e.before in
-    updated s.args.bank.now s.args.bank-f.now s.args.gate.now s.args.gate-f.now (hop s) s.args.rise.now s.args.drop.now _ _ _ _ (none e) t.take-hop.ensures
+    updated s.args.bank.now s.args.bank_f.now s.args.gate_1.now s.args.gate_f_1.now (hop s) s.args.rise_1.now s.args.drop_1.now _ _ _ _ (none e) t.take_hop.ensures
 
-pub gate-update-spec : {M : Type 1} → statement M
-gate-update-spec =
+pub gate_update_spec : {M : Type 1} → statement M
+gate_update_spec =
     tie.close
     (tie.spec
     gate-update-refusal-requires

@@ -11,17 +11,17 @@ use borrow.Author.Rules.{rules}
 use Rattle.gate.proofs.take_hold.Statement.{statement}
 use Rattle.gate.proofs.take_hold.Tie as tie
 
-abbrev start : tie.After-refresh-started → tie.Start
+abbrev start : tie.After-refresh_started → tie.Start
 start r = r.before.before.before.before.before.before.before.before
 
 -- the stores then hold the gate that the hold leaves
-holds : (r : tie.After-refresh-started)
+holds : (r : tie.After-refresh_started)
     → let s = start r in
-    Holds (hold_step (gate_of s.args.gate.now s.args.gate-f.now) (bank_of s.args.bank.now s.args.bank-f.now)) s.args.gate.now r.refresh-started.new.1.1.1.0
+    Holds (hold_step (gate_of s.args.gate.now s.args.gate_f_1.now) (bank_of s.args.bank.now s.args.bank_f.now)) s.args.gate.now r.refresh_started.new.1.1.1.0
 holds r = let s = start r in
-    hold_holds s.args.bank.now s.args.bank-f.now s.args.gate.now s.args.gate-f.now s.pre.paired r.refresh-started.new.1.1.1.0 r.refresh-started.ensures
+    hold_holds s.args.bank.now s.args.bank_f.now s.args.gate.now s.args.gate_f_1.now s.requires.paired r.refresh_started.new.1.1.1.0 r.refresh_started.ensures
 
-refresh-started-requires : tie.Need-refresh-started-requires
+refresh-started-requires : tie.Need-refresh_started-requires
 refresh-started-requires c κs = search rules
 
 judge-requires : tie.Need-judge-requires
@@ -29,13 +29,13 @@ judge-requires c κs = let r = c.before.before.before.before.before in
     let t = (start r).requires in
     (left-paired _ _ _ _ t.paired _ (hold-good _ _ _ _ t.paired) (hold-n _ _ _ _ t.paired) _ _ (holds r), t.rise_long, t.drop_long)
 
-same_length : tie.Need-same-length
+same_length : tie.Need-shape_of-gate_f
 same_length c = search rules
 
-same-length-2 : tie.Need-same-length-2
+same-length-2 : tie.Need-shape_of-rise
 same-length-2 c = search rules
 
-same-length-3 : tie.Need-same-length-3
+same-length-3 : tie.Need-shape_of-drop
 same-length-3 c = search rules
 
 returns : tie.Need-returns
@@ -47,5 +47,5 @@ returns c = let j = c.before.before.before.before in
       marked = left-marked _ _ _ _ p _ (hold-good _ _ _ _ p) (hold-n _ _ _ _ p) _ _ (holds r) _ _ _ j.judge.ensures;
     }
 
-pub take-hold-spec : {M : Type 1} → statement M
-take-hold-spec = tie.close (tie.spec refresh-started-requires judge-requires same_length same-length-2 same-length-3 returns)
+pub take_hold_spec : {M : Type 1} → statement M
+take_hold_spec = tie.close (tie.spec refresh-started-requires judge-requires same_length same-length-2 same-length-3 returns)

@@ -18,16 +18,16 @@ abbrev BU : tie.Start → List ℕ
 BU s = s.args.bank.now
 
 abbrev BF : tie.Start → List Float
-BF s = s.args.bank-f.now
+BF s = s.args.bank_f.now
 
 abbrev GU : tie.Start → List ℕ
-GU s = s.args.gate.now
+GU s = s.args.gate_1.now
 
 abbrev GF : tie.Start → List Float
-GF s = s.args.gate-f.now
+GF s = s.args.gate_f_1.now
 
 abbrev DB : tie.Start → List Float
-DB s = s.args.power-db.now
+DB s = s.args.power_db.now
 
 abbrev P : tie.Start → List Float
 P s = s.args.power.now
@@ -49,48 +49,48 @@ at_start r = from_step (at-step r)
 -- the stores then hold that gate
 holds : (r : tie.After-refresh) → Holds (after (at_start r)) (at-step r).step.new.0 r.refresh.new.1.1.1.0
 holds r = let s = at_start r in
-    update-holds (BU s) (BF s) (GU s) (GF s) s.pre.paired (DB s) (P s) (at-step r).step.new.0 (at-step r).step.new.1.0 r.refresh.new.1.1.1.0 (at-step r).step.ensures r.refresh.ensures
+    update-holds (BU s) (BF s) (GU s) (GF s) s.requires.paired (DB s) (P s) (at-step r).step.new.0 (at-step r).step.new.1.0 r.refresh.new.1.1.1.0 (at-step r).step.ensures r.refresh.ensures
 
 step-requires : tie.Need-step-requires
 step-requires c κs = let t = c.before.before.before.before.before.before.before.before.before.before.requires in
-    (t.paired.gate, t.db_long, t.power_long)
+    (t.paired.gate-1, t.db_long, t.power_long)
 
 refresh-requires : tie.Need-refresh-requires
 refresh-requires c κs = let w = c.before.before.before.before.before.before in
     let s = from_step w in
-    let p = s.pre.paired in
+    let p = s.requires.paired in
     left-paired (BU s) (BF s) (GU s) (GF s) p (gate_step (gate_of (GU s) (GF s)) (DB s) (P s)) (hop-good (BU s) (BF s) (GU s) (GF s) p (DB s) (P s))
     (hop-n (BU s) (BF s) (GU s) (GF s) p (DB s) (P s)) w.step.new.0 w.step.new.1.0 w.step.ensures
 
 judge-requires : tie.Need-judge-requires
 judge-requires c κs = let r = c.before.before.before.before.before.before in
     let s = at_start r in
-    let p = s.pre.paired in
+    let p = s.requires.paired in
     let good = update-good (BU s) (BF s) (GU s) (GF s) p (DB s) (P s) in
     let same = update-n (BU s) (BF s) (GU s) (GF s) p (DB s) (P s) in
     let n = left-n (BU s) (BF s) (GU s) (GF s) p (after s) good same (at-step r).step.new.0 r.refresh.new.1.1.1.0 (holds r) in (
       left-paired (BU s) (BF s) (GU s) (GF s) p (after s) good same (at-step r).step.new.0 r.refresh.new.1.1.1.0 (holds r),
-      s.pre.rise_long ∙ sym n,
-      s.pre.drop_long ∙ sym n,
+      s.requires.rise_long ∙ sym n,
+      s.requires.drop_long ∙ sym n,
     )
 
-same_length : tie.Need-same-length
+same_length : tie.Need-shape_of-gate
 same_length c = search rules
 
-same-length-2 : tie.Need-same-length-2
+same-length-2 : tie.Need-shape_of-gate_f
 same-length-2 c = search rules
 
-same-length-3 : tie.Need-same-length-3
+same-length-3 : tie.Need-shape_of-rise
 same-length-3 c = search rules
 
-same-length-4 : tie.Need-same-length-4
+same-length-4 : tie.Need-shape_of-drop
 same-length-4 c = search rules
 
 returns : tie.Need-returns
 returns c = let j = c.before.before.before.before in
     let r = j.before.before.before.before.before.before.before in
     let s = at_start r in
-    let p = s.pre.paired in
+    let p = s.requires.paired in
     record {
       holds = holds r;
       marked =
@@ -98,8 +98,8 @@ returns c = let j = c.before.before.before.before in
           (update-n (BU s) (BF s) (GU s) (GF s) p (DB s) (P s)) (at-step r).step.new.0 r.refresh.new.1.1.1.0 (holds r) (bank_of (BU s) (BF s)) _ _ j.judge.ensures;
     }
 
-pub take-hop-spec : {M : Type 1} → statement M
-take-hop-spec =
+pub take_hop_spec : {M : Type 1} → statement M
+take_hop_spec =
     tie.close
     (tie.spec
     step-requires
