@@ -1,4 +1,5 @@
 // Document 01, "Windows, ladder, gate": the gate's update and its hold over the four lent stores.
+#![tactic(auto)]
 
 ghost use Rattle.std.specs.Prelude.{◌≡◌, length};
 ghost use Rattle.model.specs.Stores.{bank_of};

@@ -9,19 +9,19 @@ use Rattle.gate.proofs.gate_hold.Statement.{statement}
 use Rattle.gate.proofs.gate_hold.Tie as tie
 
 abbrev start : tie.After-hold_refusal-refusal → tie.Start
-start q = q.before.before.before.before.before.before.before.before
+start q = q.before.before.before.before.before.before.before
 
 -- past the test the hold is not refused
 none : (e : tie.Else-refusal-ne0)
     → let s = start e.before in
-    hold_refusal s.args.bank.now s.args.bank_f.now s.args.gate.now s.args.gate_f_1.now (length s.args.rise_1.now) (length s.args.drop_1.now) ≡ 0
+    hold_refusal s.args.bank.now s.args.bank_f.now s.args.gate.now s.args.gate_f.now (length s.args.rise.now) (length s.args.drop.now) ≡ 0
 none e = sym e.before.hold_refusal-refusal.ensures ∙ e.if-refusal-ne0.false
 
 asked : (e : tie.Else-refusal-ne0)
     → let s = start e.before in
-    Keeps s.args.bank.now s.args.bank_f.now s.args.gate.now s.args.gate_f_1.now (length s.args.rise_1.now) (length s.args.drop_1.now)
+    Keeps s.args.bank.now s.args.bank_f.now s.args.gate.now s.args.gate_f.now (length s.args.rise.now) (length s.args.drop.now)
 asked e = let s = start e.before in
-    hold-asked s.args.bank.now s.args.bank_f.now s.args.gate.now s.args.gate_f_1.now (length s.args.rise_1.now) (length s.args.drop_1.now) (none e)
+    hold-asked s.args.bank.now s.args.bank_f.now s.args.gate.now s.args.gate_f.now (length s.args.rise.now) (length s.args.drop.now) (none e)
 
 hold-refusal-requires : tie.Need-hold_refusal-refusal-requires
 hold-refusal-requires c κs = search rules

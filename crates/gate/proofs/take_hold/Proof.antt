@@ -1,7 +1,4 @@
 -- `gate::take_hold` meets its contract: the gate that it leaves is the one that it judges. Assumes nothing.
-use mathlib.Core.List.{List}
-use Prim.Native.Nat.{ℕ}
-use lib.Ieee.{Float}
 use Rattle.model.specs.Stores.{bank_of}
 use Rattle.model.specs.Gate.{hold_step}
 use Rattle.model.specs.GateStores.{gate_of}
@@ -17,15 +14,15 @@ start r = r.before.before.before.before.before.before.before.before
 -- the stores then hold the gate that the hold leaves
 holds : (r : tie.After-refresh_started)
     → let s = start r in
-    Holds (hold_step (gate_of s.args.gate.now s.args.gate_f_1.now) (bank_of s.args.bank.now s.args.bank_f.now)) s.args.gate.now r.refresh_started.new.1.1.1.0
+    Holds (hold_step (gate_of s.args.gate.now s.args.gate_f.now) (bank_of s.args.bank.now s.args.bank_f.now)) s.args.gate.now r.refresh_started.new.gate_f
 holds r = let s = start r in
-    hold_holds s.args.bank.now s.args.bank_f.now s.args.gate.now s.args.gate_f_1.now s.requires.paired r.refresh_started.new.1.1.1.0 r.refresh_started.ensures
+    hold_holds s.args.bank.now s.args.bank_f.now s.args.gate.now s.args.gate_f.now s.requires.paired r.refresh_started.new.gate_f r.refresh_started.ensures
 
 refresh-started-requires : tie.Need-refresh_started-requires
 refresh-started-requires c κs = search rules
 
 judge-requires : tie.Need-judge-requires
-judge-requires c κs = let r = c.before.before.before.before.before in
+judge-requires c κs = let r = c.before.before.before.before in
     let t = (start r).requires in
     (left-paired _ _ _ _ t.paired _ (hold-good _ _ _ _ t.paired) (hold-n _ _ _ _ t.paired) _ _ (holds r), t.rise_long, t.drop_long)
 
@@ -40,7 +37,7 @@ same-length-3 c = search rules
 
 returns : tie.Need-returns
 returns c = let j = c.before.before.before.before in
-    let r = j.before.before.before.before.before.before in
+    let r = j.before.before.before.before.before in
     let p = (start r).requires.paired in
     record {
       holds = holds r;
