@@ -12,80 +12,80 @@ use Rattle.bank_step.proofs.take_hop.Statement.{statement}
 use Rattle.bank_step.proofs.take_hop.Tie as tie
 
 abbrev m : tie.Start → ℕ
-m s = length s.args.power-db.now
+m s = length s.args.power_db.now
 
 abbrev bank : tie.Start → FloorBank
-bank s = bank_of s.args.bank.now s.args.bank-f.now
+bank s = bank_of s.args.bank_1.now s.args.bank_f_1.now
 
 abbrev smoothed : tie.Start → FloorBank
-smoothed s = smooth_step s.args.hold-reference s.args.power.now (bank s)
+smoothed s = smooth_step s.args.hold_reference s.args.power.now (bank s)
 
-abbrev start : tie.After-smooth-all → tie.Start
+abbrev start : tie.After-smooth_all → tie.Start
 start c = c.before.before.before.before.before.before.before
 
-abbrev after : tie.After-floor-hop → tie.After-smooth-all
+abbrev after : tie.After-floor_hop → tie.After-smooth_all
 after c = c.before.before.before.before.before.before.before
 
 -- after (a)
-at1 : (c : tie.After-smooth-all) → At (m (start c)) (smoothed (start c)) (start c).args.bank.now c.smooth-all.new.0
+at1 : (c : tie.After-smooth_all) → At (m (start c)) (smoothed (start c)) (start c).args.bank_1.now c.smooth_all.new.0
 at1 c =
     let s = start c in
-    only-floats (m s) (bank s) s.args.bank.now s.args.bank-f.now (at_start s.args.bank.now s.args.bank-f.now (m s) s.pre.0 s.pre.1) (smooth_step s.args.hold-reference s.args.power.now)
-    (keeps-smooth s.args.hold-reference s.args.power.now) (smooth-u s.args.hold-reference s.args.power.now) _ c.smooth-all.ensures
+    only-floats (m s) (bank s) s.args.bank_1.now s.args.bank_f_1.now (at_start s.args.bank_1.now s.args.bank_f_1.now (m s) s.requires.0 s.requires.1) (smooth_step s.args.hold_reference s.args.power.now)
+    (keeps-smooth s.args.hold_reference s.args.power.now) (smooth-u s.args.hold_reference s.args.power.now) _ c.smooth_all.ensures
 
 -- after (b)
-at2 : (c : tie.After-floor-hop) → At (m (start (after c))) (floor_step (start (after c)).args.power-db.now (smoothed (start (after c)))) c.floor-hop.new.0 c.floor-hop.new.1.0
+at2 : (c : tie.After-floor_hop) → At (m (start (after c))) (floor_step (start (after c)).args.power_db.now (smoothed (start (after c)))) c.floor_hop.new.0 c.floor_hop.new.1.0
 at2 c =
-    both _ _ _ _ (at1 (after c)) (floor_step (start (after c)).args.power-db.now) (keeps-floor (start (after c)).args.power-db.now) _ _ c.floor-hop.ensures
+    both _ _ _ _ (at1 (after c)) (floor_step (start (after c)).args.power_db.now) (keeps-floor (start (after c)).args.power_db.now) _ _ c.floor_hop.ensures
 
-smooth-all-requires : tie.Need-smooth-all-requires
+smooth-all-requires : tie.Need-smooth_all-requires
 smooth-all-requires c κs = search rules
 
-slice-read-if1 : tie.Need-slice-read-if1
+slice-read-if1 : tie.Need-bounds-bank-1
 slice-read-if1 c = search rules
 
-floor-hop-requires : tie.Need-floor-hop-requires
+floor-hop-requires : tie.Need-floor_hop-requires
 floor-hop-requires c κs = ready_at _ _ _ _ (at1 c.before.before.before.before.before.before)
 
 advance-requires : tie.Need-advance-requires
 advance-requires c κs = headed _ _ _ _ (at2 c.before.before.before.before.before)
 
-same_length : tie.Need-same-length
+same_length : tie.Need-shape_of-bank-then-bank-eq0
 same_length c = search rules
 
-same-length-2 : tie.Need-same-length-2
+same-length-2 : tie.Need-shape_of-bank_f-then-bank-eq0
 same-length-2 c = search rules
 
-returns : tie.Need-returns
+returns : tie.Need-returns-then-bank-eq0
 returns c =
     let v = c.before.before in
     let q = v.before.before.before.before.before.before in
     let s = start (after q) in
     done _ _ _ _ _ _ (at2 q)
-    (slow-step (bank s) s.args.hold-reference s.args.power-db.now s.args.power.now (phase-of s.args.bank.now s.args.bank-f.now ∙ q.before.before.before.if1.true))
+    (slow-step (bank s) s.args.hold_reference s.args.power_db.now s.args.power.now (phase-of s.args.bank_1.now s.args.bank_f_1.now ∙ q.before.before.before.if-bank-eq0.true))
     v.advance.ensures
 
 advance-requires-2 : tie.Need-advance-requires-2
 advance-requires-2 c κs = headed _ _ _ _ (at1 c.before.before.before.before.before)
 
-same-length-3 : tie.Need-same-length-3
+same-length-3 : tie.Need-shape_of-bank
 same-length-3 c = search rules
 
-same-length-4 : tie.Need-same-length-4
+same-length-4 : tie.Need-shape_of-bank_f
 same-length-4 c = search rules
 
-returns-2 : tie.Need-returns-2
+returns-2 : tie.Need-returns
 returns-2 c =
     let v = c.before.before in
     let e = v.before.before in
     let q = e.before.before.before.before in
     let s = start q in
     done _ _ _ _ _ _ (at1 q)
-    (fast-step (bank s) s.args.hold-reference s.args.power-db.now s.args.power.now (λ h. e.if1.false (sym (phase-of s.args.bank.now s.args.bank-f.now) ∙ h)))
-    v.advance2.ensures
+    (fast-step (bank s) s.args.hold_reference s.args.power_db.now s.args.power.now (λ h. e.if-bank-eq0.false (sym (phase-of s.args.bank_1.now s.args.bank_f_1.now) ∙ h)))
+    v.advance-2.ensures
 
-pub take-hop-spec : {M : Type 1} → statement M
-take-hop-spec =
+pub take_hop_spec : {M : Type 1} → statement M
+take_hop_spec =
     tie.close
     (tie.spec
     smooth-all-requires
