@@ -9,25 +9,25 @@ use Rattle.readings.proofs.effective_floor_db.Statement.{statement}
 use Rattle.readings.proofs.effective_floor_db.Tie as tie
 
 -- past the test the reading is not refused
-ok : (e : tie.Else1)
-    → Readable e.before.before.before.before.args.bank.now e.before.before.before.before.args.bank-f.now e.before.before.before.before.args.k
-ok e = readable _ _ _ (sym e.before.read-refusal.ensures ∙ e.if1.false)
+ok : (e : tie.Else-no-ne0)
+    → Readable e.before.before.before.before.args.bank.now e.before.before.before.before.args.bank_f.now e.before.before.before.before.args.k
+ok e = readable _ _ _ (sym e.before.read_refusal-no.ensures ∙ e.if-no-ne0.false)
 
-read-refusal-requires : tie.Need-read-refusal-requires
+read-refusal-requires : tie.Need-read_refusal-no-requires
 read-refusal-requires c κs = search rules
 
-returns : tie.Need-returns
+returns : tie.Need-returns-then-no-ne0
 unfolding effective_reading
-returns c = refused _ _ _ c.before.read-refusal.ensures c.if1.true
+returns c = refused _ _ _ c.before.read_refusal-no.ensures c.if-no-ne0.true
 
-effective-at-requires : tie.Need-effective-at-requires
+effective-at-requires : tie.Need-effective_at-requires
 effective-at-requires c κs = ok c
 
-returns-2 : tie.Need-returns-2
+returns-2 : tie.Need-returns
 unfolding effective_reading
 returns-2 c = let e = c.before in
-    valued _ _ _ _ e.before.read-refusal.ensures e.if1.false c.effective-at.ensures
+    valued _ _ _ _ e.before.read_refusal-no.ensures e.if-no-ne0.false c.effective_at.ensures
 
-pub effective-floor-db-spec : {M : Type 1} → statement M
-effective-floor-db-spec =
+pub effective_floor_db_spec : {M : Type 1} → statement M
+effective_floor_db_spec =
     tie.close (tie.spec read-refusal-requires returns effective-at-requires returns-2)

@@ -9,24 +9,24 @@ use Rattle.readings.proofs.rise_floor_db.Statement.{statement}
 use Rattle.readings.proofs.rise_floor_db.Tie as tie
 
 -- past the test the reading is not refused
-ok : (e : tie.Else1)
-    → Readable e.before.before.before.before.args.bank.now e.before.before.before.before.args.bank-f.now e.before.before.before.before.args.k
-ok e = readable _ _ _ (sym e.before.read-refusal.ensures ∙ e.if1.false)
+ok : (e : tie.Else-no-ne0)
+    → Readable e.before.before.before.before.args.bank.now e.before.before.before.before.args.bank_f.now e.before.before.before.before.args.k
+ok e = readable _ _ _ (sym e.before.read_refusal-no.ensures ∙ e.if-no-ne0.false)
 
-read-refusal-requires : tie.Need-read-refusal-requires
+read-refusal-requires : tie.Need-read_refusal-no-requires
 read-refusal-requires c κs = search rules
 
-returns : tie.Need-returns
+returns : tie.Need-returns-then-no-ne0
 unfolding rise_reading
-returns c = refused _ _ _ c.before.read-refusal.ensures c.if1.true
+returns c = refused _ _ _ c.before.read_refusal-no.ensures c.if-no-ne0.true
 
-rise-at-requires : tie.Need-rise-at-requires
+rise-at-requires : tie.Need-rise_at-requires
 rise-at-requires c κs = ok c
 
-returns-2 : tie.Need-returns-2
+returns-2 : tie.Need-returns
 unfolding rise_reading
 returns-2 c = let e = c.before in
-    valued _ _ _ _ e.before.read-refusal.ensures e.if1.false c.rise-at.ensures
+    valued _ _ _ _ e.before.read_refusal-no.ensures e.if-no-ne0.false c.rise_at.ensures
 
-pub rise-floor-db-spec : {M : Type 1} → statement M
-rise-floor-db-spec = tie.close (tie.spec read-refusal-requires returns rise-at-requires returns-2)
+pub rise_floor_db_spec : {M : Type 1} → statement M
+rise_floor_db_spec = tie.close (tie.spec read-refusal-requires returns rise-at-requires returns-2)

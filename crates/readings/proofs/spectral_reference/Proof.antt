@@ -9,25 +9,25 @@ use Rattle.readings.proofs.spectral_reference.Statement.{statement}
 use Rattle.readings.proofs.spectral_reference.Tie as tie
 
 -- past the test the reading is not refused
-ok : (e : tie.Else1)
-    → Readable e.before.before.before.before.args.bank.now e.before.before.before.before.args.bank-f.now e.before.before.before.before.args.k
-ok e = readable _ _ _ (sym e.before.read-refusal.ensures ∙ e.if1.false)
+ok : (e : tie.Else-no-ne0)
+    → Readable e.before.before.before.before.args.bank.now e.before.before.before.before.args.bank_f.now e.before.before.before.before.args.k
+ok e = readable _ _ _ (sym e.before.read_refusal-no.ensures ∙ e.if-no-ne0.false)
 
-read-refusal-requires : tie.Need-read-refusal-requires
+read-refusal-requires : tie.Need-read_refusal-no-requires
 read-refusal-requires c κs = search rules
 
-returns : tie.Need-returns
+returns : tie.Need-returns-then-no-ne0
 unfolding reference_reading
-returns c = refused _ _ _ c.before.read-refusal.ensures c.if1.true
+returns c = refused _ _ _ c.before.read_refusal-no.ensures c.if-no-ne0.true
 
-reference-at-requires : tie.Need-reference-at-requires
+reference-at-requires : tie.Need-reference_at-requires
 reference-at-requires c κs = ok c
 
-returns-2 : tie.Need-returns-2
+returns-2 : tie.Need-returns
 unfolding reference_reading
 returns-2 c = let e = c.before in
-    valued _ _ _ _ e.before.read-refusal.ensures e.if1.false c.reference-at.ensures
+    valued _ _ _ _ e.before.read_refusal-no.ensures e.if-no-ne0.false c.reference_at.ensures
 
-pub spectral-reference-spec : {M : Type 1} → statement M
-spectral-reference-spec =
+pub spectral_reference_spec : {M : Type 1} → statement M
+spectral_reference_spec =
     tie.close (tie.spec read-refusal-requires returns reference-at-requires returns-2)
