@@ -1,4 +1,6 @@
 // Document 01, "Block and bank step": one hop that is not refused, over the two lent stores of a sound bank.
+#![tactic(auto)]
+
 ghost use Rattle.std.specs.Prelude.{◌≡◌, length, get_or};
 ghost use Rattle.model.specs.Bank.{hop, bank_step};
 ghost use Rattle.model.specs.Stores.{bank_floats, bank_of};

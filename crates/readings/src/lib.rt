@@ -1,4 +1,6 @@
 // Document 01, "Readings", the bank's half: what is read of a lent bank, by channel.
+#![tactic(auto)]
+
 ghost use Rattle.std.specs.Prelude.{◌≡◌, ◌<◌};
 ghost use Rattle.laws.specs.Lists.{part};
 ghost use Rattle.model.specs.Readings.{raw_reading, effective_reading, rise_reading, reference_reading, floors_reading, ring_start, ring_length, VeryPart};

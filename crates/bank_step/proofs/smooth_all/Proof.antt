@@ -13,14 +13,14 @@ use Rattle.bank_stages.proofs.Loops.{Fits, fits, smooth-done, starts, goes_on, h
 use Rattle.bank_step.proofs.smooth_all.Statement.{statement}
 use Rattle.bank_step.proofs.smooth_all.Tie as tie
 
-fit : (s : tie.Start) → Fits s.args.bank.now s.args.bank_f_1.now (length s.args.power.now)
-fit s = fits s.args.bank.now s.args.bank_f_1.now (length s.args.power.now) s.requires.0 s.requires.1
+fit : (s : tie.Start) → Fits s.args.bank.now s.args.bank_f.now (length s.args.power.now)
+fit s = fits s.args.bank.now s.args.bank_f.now (length s.args.power.now) s.requires.0 s.requires.1
 
 -- the powers that are lent are n
-smooth_long : (s : tie.Start) → length (part (2 * length s.args.power.now) (2 * length s.args.power.now + length s.args.power.now - 2 * length s.args.power.now) s.args.bank_f_1.now) ≡ length s.args.power.now
+smooth_long : (s : tie.Start) → length (part (2 * length s.args.power.now) (2 * length s.args.power.now + length s.args.power.now - 2 * length s.args.power.now) s.args.bank_f.now) ≡ length s.args.power.now
 smooth_long s =
     rw (width (2 * length s.args.power.now) (length s.args.power.now))
-    (length_part (2 * length s.args.power.now) (length s.args.power.now) s.args.bank_f_1.now (omega (arith, (fit s).long_f)))
+    (length_part (2 * length s.args.power.now) (length s.args.power.now) s.args.bank_f.now (omega (arith, (fit s).long_f)))
 
 mul-a : tie.Need-overflow_mul-a
 mul-a c = search rules
@@ -54,17 +54,17 @@ returns c =
     let q = c.before.before in
     let s = q.before.before.before.before.before.before.before in
     let u = s.args.bank.now in
-    let f = s.args.bank_f_1.now in
+    let f = s.args.bank_f.now in
     let p = s.args.power.now in
     let n = length p in
-    smooth-done u f s.requires.0 n s.requires.1 s.args.hold_reference p q.start_powers.new.0 _
+    smooth-done u f s.requires.0 n s.requires.1 s.args.hold_reference p q.start_powers.new.smooth _
     (q.start_powers.ensures ∙ starts u f s.requires.0 n s.requires.1 s.args.hold_reference p q.before.before.if-bank-eq0.true _ (smooth_long s)) (rw (width (2 * n) n))
 
 returns-2 : tie.Need-returns-then-hold_reference
 returns-2 c =
     let s = c.before.before.before.before.before.before in
     let u = s.args.bank.now in
-    let f = s.args.bank_f_1.now in
+    let f = s.args.bank_f.now in
     let p = s.args.power.now in
     held_stays u f s.requires.0 (length p) s.requires.1 p c.before.if-bank-eq0.false ∙ ap (λ (h : Bool). bank_floats (smooth_step h p (bank_of u f))) (sym c.if-hold_reference.true)
 
@@ -91,10 +91,10 @@ returns-3 c =
     let q = c.before.before in
     let s = q.before.before.before.before.before.before.before.before in
     let u = s.args.bank.now in
-    let f = s.args.bank_f_1.now in
+    let f = s.args.bank_f.now in
     let p = s.args.power.now in
     let n = length p in
-    smooth-done u f s.requires.0 n s.requires.1 false p q.smooth_powers.new.0 _
+    smooth-done u f s.requires.0 n s.requires.1 false p q.smooth_powers.new.smooth _
     ((rw (width (2 * n) n) at q.smooth_powers.ensures) ∙ goes_on u f s.requires.0 n s.requires.1 p q.before.before.before.if-bank-eq0.false _ (length_part (2 * n) n f (omega (arith, (fit s).long_f)))) (rw (width (2 * n) n))
     ∙ ap (λ (h : Bool). bank_floats (smooth_step h p (bank_of u f))) (sym q.before.before.if-hold_reference.false)
 

@@ -15,26 +15,26 @@ abbrev m : tie.Start → ℕ
 m s = length s.args.power_db.now
 
 abbrev bank : tie.Start → FloorBank
-bank s = bank_of s.args.bank_1.now s.args.bank_f_1.now
+bank s = bank_of s.args.bank.now s.args.bank_f.now
 
 abbrev smoothed : tie.Start → FloorBank
 smoothed s = smooth_step s.args.hold_reference s.args.power.now (bank s)
 
 abbrev start : tie.After-smooth_all → tie.Start
-start c = c.before.before.before.before.before.before.before
+start c = c.before.before.before.before.before.before
 
 abbrev after : tie.After-floor_hop → tie.After-smooth_all
 after c = c.before.before.before.before.before.before.before
 
 -- after (a)
-at1 : (c : tie.After-smooth_all) → At (m (start c)) (smoothed (start c)) (start c).args.bank_1.now c.smooth_all.new.0
+at1 : (c : tie.After-smooth_all) → At (m (start c)) (smoothed (start c)) (start c).args.bank.now c.smooth_all.new.bank_f
 at1 c =
     let s = start c in
-    only-floats (m s) (bank s) s.args.bank_1.now s.args.bank_f_1.now (at_start s.args.bank_1.now s.args.bank_f_1.now (m s) s.requires.0 s.requires.1) (smooth_step s.args.hold_reference s.args.power.now)
+    only-floats (m s) (bank s) s.args.bank.now s.args.bank_f.now (at_start s.args.bank.now s.args.bank_f.now (m s) s.requires.0 s.requires.1) (smooth_step s.args.hold_reference s.args.power.now)
     (keeps-smooth s.args.hold_reference s.args.power.now) (smooth-u s.args.hold_reference s.args.power.now) _ c.smooth_all.ensures
 
 -- after (b)
-at2 : (c : tie.After-floor_hop) → At (m (start (after c))) (floor_step (start (after c)).args.power_db.now (smoothed (start (after c)))) c.floor_hop.new.0 c.floor_hop.new.1.0
+at2 : (c : tie.After-floor_hop) → At (m (start (after c))) (floor_step (start (after c)).args.power_db.now (smoothed (start (after c)))) c.floor_hop.new.bank c.floor_hop.new.bank_f
 at2 c =
     both _ _ _ _ (at1 (after c)) (floor_step (start (after c)).args.power_db.now) (keeps-floor (start (after c)).args.power_db.now) _ _ c.floor_hop.ensures
 
@@ -62,7 +62,7 @@ returns c =
     let q = v.before.before.before.before.before.before in
     let s = start (after q) in
     done _ _ _ _ _ _ (at2 q)
-    (slow-step (bank s) s.args.hold_reference s.args.power_db.now s.args.power.now (phase-of s.args.bank_1.now s.args.bank_f_1.now ∙ q.before.before.before.if-bank-eq0.true))
+    (slow-step (bank s) s.args.hold_reference s.args.power_db.now s.args.power.now (phase-of s.args.bank.now s.args.bank_f.now ∙ q.before.before.before.if-bank-eq0.true))
     v.advance.ensures
 
 advance-requires-2 : tie.Need-advance-requires-2
@@ -81,7 +81,7 @@ returns-2 c =
     let q = e.before.before.before.before in
     let s = start q in
     done _ _ _ _ _ _ (at1 q)
-    (fast-step (bank s) s.args.hold_reference s.args.power_db.now s.args.power.now (λ h. e.if-bank-eq0.false (sym (phase-of s.args.bank_1.now s.args.bank_f_1.now) ∙ h)))
+    (fast-step (bank s) s.args.hold_reference s.args.power_db.now s.args.power.now (λ h. e.if-bank-eq0.false (sym (phase-of s.args.bank.now s.args.bank_f.now) ∙ h)))
     v.advance-2.ensures
 
 pub take_hop_spec : {M : Type 1} → statement M
