@@ -1,4 +1,6 @@
 // Document 02, R-13: a bank update from linear power alone.
+#![tactic(auto)]
+
 ghost use Rattle.std.specs.Prelude.{◌≡◌};
 ghost use Rattle.model.specs.Refusals.{update_refusal};
 ghost use Rattle.model.specs.Calls.{bank_update_call};
