@@ -15,8 +15,8 @@ start j = j.before.before.before.before.before.before.before.before.before.befor
 -- the gate's n is from 1 to 512
 n_within : (j : tie.After-judge) → (1 ≤ get_or (start j).args.gate.now 0 0) × (get_or (start j).args.gate.now 0 0 ≤ 512)
 n_within j = let s = start j in
-    let g = s.pre.0.gate.good in
-    (omega (arith, g.low, n-of s.args.gate.now s.args.gate-f.now), omega (arith, g.high, n-of s.args.gate.now s.args.gate-f.now))
+    let g = s.requires.0.gate.good in
+    (omega (arith, g.low, n-of s.args.gate.now s.args.gate_f.now), omega (arith, g.high, n-of s.args.gate.now s.args.gate_f.now))
 
 -- the marks are as long as they were
 rise_long : (j : tie.After-judge) → length j.judge.new.1.1.1.1.0 ≡ get_or (start j).args.gate.now 0 0
@@ -26,7 +26,7 @@ judge-requires : tie.Need-judge-requires
 judge-requires c κs = let s = c.before.before.before.before.before.before.before.before.before in
     (s.requires.0, s.requires.2, s.requires.3)
 
-set-marks-requires : tie.Need-set-marks-requires
+set-marks-requires : tie.Need-set_marks-requires
 set-marks-requires c κs = let j = c.before.before.before.before.before.before.before in (
   omega (arith, rise_long j, (n_within j).0),
   omega (arith, rise_long j, (n_within j).1),
@@ -35,22 +35,22 @@ set-marks-requires c κs = let j = c.before.before.before.before.before.before.b
   j.judge.auto.1.1.1.1.1.0 ∙ (start j).requires.3 ∙ sym (rise_long j),
 )
 
-same_length : tie.Need-same-length
+same_length : tie.Need-shape_of-map
 same_length c = search rules
 
-same-length-2 : tie.Need-same-length-2
+same-length-2 : tie.Need-shape_of-rise
 same-length-2 c = search rules
 
-same-length-3 : tie.Need-same-length-3
+same-length-3 : tie.Need-shape_of-drop
 same-length-3 c = search rules
 
 returns : tie.Need-returns
 returns c = let j = c.before.before.before.before.before.before.before.before.before.before in
     let s = start j in (
       j.judge.ensures,
-      c.before.before.set-marks.ensures
-          ∙ ap (λ (n : ℕ). marks_set n s.args.map.now j.judge.new.1.1.1.1.0 j.judge.new.1.1.1.1.1.0) (rise_long j),
+      c.before.before.set_marks.ensures
+          ∙ ap (λ (n : ℕ). marks_set n s.args.map_1.now j.judge.new.1.1.1.1.0 j.judge.new.1.1.1.1.1.0) (rise_long j),
     )
 
-pub flag-marks-spec : {M : Type 1} → statement M
-flag-marks-spec = tie.close (tie.spec judge-requires set-marks-requires same_length same-length-2 same-length-3 returns)
+pub flag_marks_spec : {M : Type 1} → statement M
+flag_marks_spec = tie.close (tie.spec judge-requires set-marks-requires same_length same-length-2 same-length-3 returns)

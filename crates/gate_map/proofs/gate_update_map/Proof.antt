@@ -17,43 +17,43 @@ use borrow.Author.Rules.{rules}
 use Rattle.gate_map.proofs.gate_update_map.Statement.{statement}
 use Rattle.gate_map.proofs.gate_update_map.Tie as tie
 
-abbrev start : tie.After-update-map-refusal → tie.Start
+abbrev start : tie.After-update_map_refusal-refusal → tie.Start
 start q = q.before.before.before.before.before.before.before.before.before.before.before.before.before
 
-abbrev BU : tie.Else1 → List ℕ
+abbrev BU : tie.Else-refusal-ne0 → List ℕ
 BU e = (start e.before).args.bank.now
 
-abbrev BF : tie.Else1 → List Float
-BF e = (start e.before).args.bank-f.now
+abbrev BF : tie.Else-refusal-ne0 → List Float
+BF e = (start e.before).args.bank_f.now
 
-abbrev GU : tie.Else1 → List ℕ
-GU e = (start e.before).args.gate.now
+abbrev GU : tie.Else-refusal-ne0 → List ℕ
+GU e = (start e.before).args.gate_1.now
 
-abbrev GF : tie.Else1 → List Float
-GF e = (start e.before).args.gate-f.now
+abbrev GF : tie.Else-refusal-ne0 → List Float
+GF e = (start e.before).args.gate_f_1.now
 
-abbrev MB : tie.Else1 → List ℕ
-MB e = (start e.before).args.map.now
+abbrev MB : tie.Else-refusal-ne0 → List ℕ
+MB e = (start e.before).args.map_1.now
 
-abbrev hop : tie.After-update-map-refusal → GateHop
-hop q = record { db = (start q).args.power-db.now; power = (start q).args.power.now }
+abbrev hop : tie.After-update_map_refusal-refusal → GateHop
+hop q = record { db = (start q).args.power_db.now; power = (start q).args.power.now }
 
 -- past the test the update is not refused
-none : (e : tie.Else1)
-    → update_map_refusal (BU e) (BF e) (GU e) (GF e) (MB e) (length (hop e.before).db) (length (hop e.before).power) (length (start e.before).args.rise.now) (length (start e.before).args.drop.now) ≡ 0
-none e = sym e.before.update-map-refusal.ensures ∙ e.if1.false
+none : (e : tie.Else-refusal-ne0)
+    → update_map_refusal (BU e) (BF e) (GU e) (GF e) (MB e) (length (hop e.before).db) (length (hop e.before).power) (length (start e.before).args.rise_1.now) (length (start e.before).args.drop_1.now) ≡ 0
+none e = sym e.before.update_map_refusal-refusal.ensures ∙ e.if-refusal-ne0.false
 
-asked : (e : tie.Else1)
+asked : (e : tie.Else-refusal-ne0)
     → Beside (BU e) (BF e) (GU e) (GF e) (MB e) × (length (hop e.before).db ≡ get_or (GU e) 0 0) × (length (hop e.before).power ≡ get_or (GU e) 0 0)
-    × (length (start e.before).args.rise.now ≡ get_or (GU e) 0 0) × (length (start e.before).args.drop.now ≡ get_or (GU e) 0 0)
+    × (length (start e.before).args.rise_1.now ≡ get_or (GU e) 0 0) × (length (start e.before).args.drop_1.now ≡ get_or (GU e) 0 0)
 asked e =
-    update-asked (BU e) (BF e) (GU e) (GF e) (MB e) (length (hop e.before).db) (length (hop e.before).power) (length (start e.before).args.rise.now) (length (start e.before).args.drop.now) (none e)
+    update-asked (BU e) (BF e) (GU e) (GF e) (MB e) (length (hop e.before).db) (length (hop e.before).power) (length (start e.before).args.rise_1.now) (length (start e.before).args.drop_1.now) (none e)
 
 -- once the pairs are up to date: the step before that, and the way past the test
 abbrev at-step : tie.After-refresh → tie.After-step
 at-step r = r.before.before.before.before.before.before.before
 
-abbrev at-else : tie.After-refresh → tie.Else1
+abbrev at-else : tie.After-refresh → tie.Else-refusal-ne0
 at-else r = (at-step r).before.before.before
 
 -- the stores then hold the gate that the update leaves
@@ -65,23 +65,23 @@ holds r = let e = at-else r in
     let h = hop e.before in
     update-holds (BU e) (BF e) (GU e) (GF e) (asked e).0.pair h.db h.power (at-step r).step.new.0 (at-step r).step.new.1.0 r.refresh.new.1.1.1.0 (at-step r).step.ensures r.refresh.ensures
 
-update-map-refusal-requires : tie.Need-update-map-refusal-requires
+update-map-refusal-requires : tie.Need-update_map_refusal-refusal-requires
 update-map-refusal-requires c κs = search rules
 
-same_length : tie.Need-same-length
+same_length : tie.Need-shape_of-gate-then-refusal-ne0
 same_length c = search rules
 
-same-length-2 : tie.Need-same-length-2
+same-length-2 : tie.Need-shape_of-gate_f-then-refusal-ne0
 same-length-2 c = search rules
 
-returns : tie.Need-returns
+returns : tie.Need-returns-then-refusal-ne0
 returns c = let q = c.before in
     let s = start q in
-    update-refused s.args.bank.now s.args.bank-f.now s.args.gate.now s.args.gate-f.now s.args.map.now (hop q) s.args.rise.now s.args.drop.now q.update-map-refusal.result q.update-map-refusal.ensures c.if1.true
+    update-refused s.args.bank.now s.args.bank_f.now s.args.gate_1.now s.args.gate_f_1.now s.args.map_1.now (hop q) s.args.rise_1.now s.args.drop_1.now q.update_map_refusal-refusal.result q.update_map_refusal-refusal.ensures c.if-refusal-ne0.true
 
 step-requires : tie.Need-step-requires
 step-requires c κs = let a = asked c.before.before in
-    (a.0.pair.gate, a.1, a.2)
+    (a.0.pair.gate-1, a.1, a.2)
 
 refresh-requires : tie.Need-refresh-requires
 refresh-requires c κs = let w = c.before.before.before.before.before.before in
@@ -100,7 +100,7 @@ left-long r = let e = at-else r in
     (update-good (BU e) (BF e) (GU e) (GF e) p h.db h.power) (update-n (BU e) (BF e) (GU e) (GF e) p h.db h.power) (at-step r).step.new.0
     r.refresh.new.1.1.1.0 (holds r)
 
-flag-marks-requires : tie.Need-flag-marks-requires
+flag-marks-requires : tie.Need-flag_marks-requires
 flag-marks-requires c κs = let r = c.before.before.before.before.before.before.before in
     let e = at-else r in
     let h = hop e.before in
@@ -115,39 +115,39 @@ flag-marks-requires c κs = let r = c.before.before.before.before.before.before.
       (asked e).4 ∙ n,
     )
 
-same-length-3 : tie.Need-same-length-3
+same-length-3 : tie.Need-shape_of-map-then-refusal-ne0
 same-length-3 c = search rules
 
-same-length-4 : tie.Need-same-length-4
+same-length-4 : tie.Need-shape_of-gate
 same-length-4 c = search rules
 
-same-length-5 : tie.Need-same-length-5
+same-length-5 : tie.Need-shape_of-gate_f
 same-length-5 c = search rules
 
-same-length-6 : tie.Need-same-length-6
+same-length-6 : tie.Need-shape_of-map
 same-length-6 c = search rules
 
-same-length-7 : tie.Need-same-length-7
+same-length-7 : tie.Need-shape_of-rise
 same-length-7 c = search rules
 
-same-length-8 : tie.Need-same-length-8
+same-length-8 : tie.Need-shape_of-drop
 same-length-8 c = search rules
 
-returns-2 : tie.Need-returns-2
+returns-2 : tie.Need-returns
 returns-2 c = let k = c.before.before.before.before.before.before in
     let r = k.before.before.before.before.before.before.before.before in
     let e = at-else r in
     let h = hop e.before in
     let p = (asked e).0.pair in
-    updated (BU e) (BF e) (GU e) (GF e) (MB e) h (start e.before).args.rise.now (start e.before).args.drop.now _ (at-step r).step.new.0
+    updated (BU e) (BF e) (GU e) (GF e) (MB e) h (start e.before).args.rise_1.now (start e.before).args.drop_1.now _ (at-step r).step.new.0
     r.refresh.new.1.1.1.0 _ _ _ (none e) (left-long r) (holds r)
     (left-marked (BU e) (BF e) (GU e) (GF e) p (update_step (gate_of (GU e) (GF e)) (bank_of (BU e) (BF e)) h.db h.power)
     (update-good (BU e) (BF e) (GU e) (GF e) p h.db h.power) (update-n (BU e) (BF e) (GU e) (GF e) p h.db h.power) (at-step r).step.new.0
-    r.refresh.new.1.1.1.0 (holds r) (bank_of (BU e) (BF e)) _ _ k.flag-marks.ensures.0)
-    k.flag-marks.ensures.1
+    r.refresh.new.1.1.1.0 (holds r) (bank_of (BU e) (BF e)) _ _ k.flag_marks.ensures.0)
+    k.flag_marks.ensures.1
 
-pub gate-update-map-spec : {M : Type 1} → statement M
-gate-update-map-spec =
+pub gate_update_map_spec : {M : Type 1} → statement M
+gate_update_map_spec =
     tie.close
     (tie.spec
     update-map-refusal-requires
