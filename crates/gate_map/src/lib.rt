@@ -1,4 +1,6 @@
 // Document 02, R-12: the gate's update and its hold with a lent map: they do what those without do, and set the flags of their marks.
+#![tactic(auto)]
+
 ghost use Rattle.std.specs.Prelude.{◌≡◌, length, get_or};
 ghost use Rattle.model.specs.Stores.{bank_of};
 ghost use Rattle.model.specs.GateStores.{gate_of};

@@ -16,7 +16,7 @@ use Rattle.gate_map.proofs.gate_hold_map.Statement.{statement}
 use Rattle.gate_map.proofs.gate_hold_map.Tie as tie
 
 abbrev start : tie.After-hold_map_refusal-refusal → tie.Start
-start q = q.before.before.before.before.before.before.before.before.before.before
+start q = q.before.before.before.before.before.before.before.before
 
 abbrev BU : tie.Else-refusal-ne0 → List ℕ
 BU e = (start e.before).args.bank.now
@@ -28,27 +28,27 @@ abbrev GU : tie.Else-refusal-ne0 → List ℕ
 GU e = (start e.before).args.gate.now
 
 abbrev GF : tie.Else-refusal-ne0 → List Float
-GF e = (start e.before).args.gate_f_1.now
+GF e = (start e.before).args.gate_f.now
 
 abbrev MB : tie.Else-refusal-ne0 → List ℕ
-MB e = (start e.before).args.map_1.now
+MB e = (start e.before).args.map.now
 
 -- past the test the hold is not refused
 none : (e : tie.Else-refusal-ne0)
-    → hold_map_refusal (BU e) (BF e) (GU e) (GF e) (MB e) (length (start e.before).args.rise_1.now) (length (start e.before).args.drop_1.now) ≡ 0
+    → hold_map_refusal (BU e) (BF e) (GU e) (GF e) (MB e) (length (start e.before).args.rise.now) (length (start e.before).args.drop.now) ≡ 0
 none e = sym e.before.hold_map_refusal-refusal.ensures ∙ e.if-refusal-ne0.false
 
 asked : (e : tie.Else-refusal-ne0)
     → Beside (BU e) (BF e) (GU e) (GF e) (MB e)
-    × (length (start e.before).args.rise_1.now ≡ get_or (GU e) 0 0) × (length (start e.before).args.drop_1.now ≡ get_or (GU e) 0 0)
-asked e = hold-asked (BU e) (BF e) (GU e) (GF e) (MB e) (length (start e.before).args.rise_1.now) (length (start e.before).args.drop_1.now) (none e)
+    × (length (start e.before).args.rise.now ≡ get_or (GU e) 0 0) × (length (start e.before).args.drop.now ≡ get_or (GU e) 0 0)
+asked e = hold-asked (BU e) (BF e) (GU e) (GF e) (MB e) (length (start e.before).args.rise.now) (length (start e.before).args.drop.now) (none e)
 
 -- the stores then hold the gate that the hold leaves
 holds : (r : tie.After-refresh_started)
     → Holds (hold_step (gate_of (GU r.before.before) (GF r.before.before)) (bank_of (BU r.before.before) (BF r.before.before))) (GU r.before.before)
-    r.refresh_started.new.1.1.1.0
+    r.refresh_started.new.gate_f
 holds r = let e = r.before.before in
-    hold_holds (BU e) (BF e) (GU e) (GF e) (asked e).0.pair r.refresh_started.new.1.1.1.0 r.refresh_started.ensures
+    hold_holds (BU e) (BF e) (GU e) (GF e) (asked e).0.pair r.refresh_started.new.gate_f r.refresh_started.ensures
 
 hold-map-refusal-requires : tie.Need-hold_map_refusal-refusal-requires
 hold-map-refusal-requires c κs = search rules
@@ -63,7 +63,7 @@ refresh-started-requires : tie.Need-refresh_started-requires
 refresh-started-requires c κs = (asked c.before).0.pair
 
 flag-marks-requires : tie.Need-flag_marks-requires
-flag-marks-requires c κs = let r = c.before.before.before.before.before.before in
+flag-marks-requires c κs = let r = c.before.before.before.before.before in
     let e = r.before.before in
     (left-paired _ _ _ _ (asked e).0.pair _ (hold-good _ _ _ _ (asked e).0.pair) (hold-n _ _ _ _ (asked e).0.pair) _ _ (holds r), (asked e).0.long, (asked e).1, (asked e).2)
 
@@ -84,7 +84,7 @@ same-length-6 c = search rules
 
 returns-2 : tie.Need-returns
 returns-2 c = let k = c.before.before.before.before.before.before in
-    let r = k.before.before.before.before.before.before.before in
+    let r = k.before.before.before.before.before.before in
     let e = r.before.before in
     held _ _ _ _ _ _ _ _ _ _ _ (none e) r.refresh_started.ensures
     (left-marked _ _ _ _ (asked e).0.pair _ (hold-good _ _ _ _ (asked e).0.pair) (hold-n _ _ _ _ (asked e).0.pair) _ _ (holds r) _ _ _ k.flag_marks.ensures.0)
