@@ -1,12 +1,9 @@
-use Rattle.std.proofs.Common.{ℕ, refl, arith}
+use Rattle.std.proofs.Common.{ℕ, arith}
 use lib.Bits.{bit_or}
-use Rattle.laws.proofs.Fills.{begins, unwritten, turns, done}
+use Rattle.laws.proofs.Fills.{unwritten, turns, done}
 use Rattle.watch_states.specs.States.{events_after}
 use Rattle.watch_states.proofs.add_events.Invariants.{event_of}
 use Rattle.watch_states.proofs.add_events.Goals as goal
-
-pub loop-k-init : goal.loop-k-init
-loop-k-init c = (refl, begins _ _)
 
 pub loop-k-preserved : goal.loop-k-preserved
 loop-k-preserved c =

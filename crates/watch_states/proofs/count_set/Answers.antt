@@ -1,12 +1,9 @@
-use Rattle.std.proofs.Common.{ℕ, ◌+◌, ◌%◌, ◌^◌, refl, ap, ◌∙◌, arith}
+use Rattle.std.proofs.Common.{ℕ, ◌+◌, ◌%◌, ◌^◌, ap, ◌∙◌, arith}
 use Rattle.laws.specs.Lists.{one}
-use Rattle.laws.proofs.Fills.{begins, unwritten, turns, done}
+use Rattle.laws.proofs.Fills.{unwritten, turns, done}
 use Rattle.watch_states.specs.States.{counts_after}
 use Rattle.watch_states.proofs.count_set.Invariants.{count_of}
 use Rattle.watch_states.proofs.count_set.Goals as goal
-
-pub loop-k-init : goal.loop-k-init
-loop-k-init c = (refl, begins _ _)
 
 pub loop-k-preserved : goal.loop-k-preserved
 loop-k-preserved c =

@@ -1,12 +1,9 @@
-use Rattle.std.proofs.Common.{ℕ, eqb, refl, ap, ◌∙◌, arith}
+use Rattle.std.proofs.Common.{ℕ, eqb, ap, ◌∙◌, arith}
 use Rattle.laws.specs.Lists.{one}
-use Rattle.laws.proofs.Fills.{begins, unwritten, turns, done}
+use Rattle.laws.proofs.Fills.{unwritten, turns, done}
 use Rattle.watch_states.specs.States.{state_after, states_after}
 use Rattle.watch_states.proofs.step_states.Invariants.{state_of}
 use Rattle.watch_states.proofs.step_states.Goals as goal
-
-pub loop-k-init : goal.loop-k-init
-loop-k-init c = (refl, begins _ _)
 
 pub loop-k-preserved : goal.loop-k-preserved
 loop-k-preserved c =
