@@ -1,4 +1,5 @@
 // Document 01, "Block and bank step": one bank update over the two lent stores.
+#![tactic(auto)]
 
 ghost use Rattle.std.specs.Prelude.{◌≡◌, false};
 ghost use Rattle.model.specs.Bank.{hop};

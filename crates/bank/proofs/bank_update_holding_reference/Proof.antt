@@ -18,14 +18,14 @@ same-length-2 c = search rules
 returns : tie.Need-returns-then-refusal-ne0
 returns c =
     let q = c.before in
-    let s = q.before.before.before.before.before.before.before in
-    refused s.args.bank_1.now s.args.bank_f_1.now (hop s.args.hold_reference s.args.power_db.now s.args.power.now) q.update_refusal-refusal.result q.update_refusal-refusal.ensures c.if-refusal-ne0.true
+    let s = q.before.before.before.before.before in
+    refused s.args.bank.now s.args.bank_f.now (hop s.args.hold_reference s.args.power_db.now s.args.power.now) q.update_refusal-refusal.result q.update_refusal-refusal.ensures c.if-refusal-ne0.true
 
 take-hop-requires : tie.Need-take_hop-requires
 take-hop-requires c κs =
     let e = c.before.before in
-    let s = e.before.before.before.before.before.before.before.before in
-    asked s.args.bank_1.now s.args.bank_f_1.now s.args.power_db.now s.args.power.now (sym e.before.update_refusal-refusal.ensures ∙ e.if-refusal-ne0.false)
+    let s = e.before.before.before.before.before.before in
+    asked s.args.bank.now s.args.bank_f.now s.args.power_db.now s.args.power.now (sym e.before.update_refusal-refusal.ensures ∙ e.if-refusal-ne0.false)
 
 same-length-3 : tie.Need-shape_of-bank
 same-length-3 c = search rules
@@ -37,8 +37,8 @@ returns-2 : tie.Need-returns
 returns-2 c =
     let t = c.before.before.before.before in
     let e = t.before.before.before in
-    let s = e.before.before.before.before.before.before.before.before in
-    accepted s.args.bank_1.now _ s.args.bank_f_1.now _ (hop s.args.hold_reference s.args.power_db.now s.args.power.now) (sym e.before.update_refusal-refusal.ensures ∙ e.if-refusal-ne0.false) t.take_hop.ensures
+    let s = e.before.before.before.before.before.before in
+    accepted s.args.bank.now _ s.args.bank_f.now _ (hop s.args.hold_reference s.args.power_db.now s.args.power.now) (sym e.before.update_refusal-refusal.ensures ∙ e.if-refusal-ne0.false) t.take_hop.ensures
 
 pub bank_update_holding_reference_spec : {M : Type 1} → statement M
 bank_update_holding_reference_spec =
