@@ -1,19 +1,19 @@
 -- A hop of more channels than a bank can have is refused for its length, whatever its dB. Assumes nothing.
-use mathlib.Core.Path.{◌≡◌, refl, sym, ap, ◌∙◌}
-use mathlib.Core.Bool.{Bool, true, false, not, ◌||◌}
+use mathlib.Core.Path.{◌≡◌, refl}
+use mathlib.Core.Bool.{Bool, true, false, ◌||◌}
 use mathlib.Core.List.{List}
 use Prim.Native.Nat.{ℕ, zero, suc, ◌<◌}
 use native.Mathlib.Omega.{arith}
 use lib.ListN.{length, get_or}
 use lib.Ieee.{Float}
 use borrow.Author.Tests.{ne_eqb}
-use Rattle.laws.specs.Tests.{differ, first}
+use Rattle.laws.specs.Tests.{differ}
 use Rattle.model.specs.Bank.{Hop, bank_step}
 use Rattle.model.specs.Stores.{bank_of}
 use Rattle.model.specs.Refusals.{bank_refusal, update_refusal}
 use Rattle.model.specs.GateCalls.{or_else}
 use Rattle.model.specs.Worst.{worst_of, worst_step}
-use Rattle.model.specs.WorstCalls.{worst_refusal, beside_refusal, carry_refusal, both_leave, worst_update}
+use Rattle.model.specs.WorstCalls.{beside_refusal, carry_refusal, both_leave, worst_update}
 use Rattle.model.specs.Decibels.{decibels, linear_hop}
 use Rattle.model.proofs.GoodBanks.{ready}
 

@@ -1,4 +1,6 @@
 // Document 02, R-13 with R-6: a bank update from linear power alone that carries the store of the worst floor of late.
+#![tactic(auto)]
+
 ghost use Rattle.std.specs.Prelude.{◌≡◌};
 ghost use Rattle.model.specs.WorstCalls.{worst_update};
 ghost use Rattle.model.specs.Decibels.{linear_hop};
