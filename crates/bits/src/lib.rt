@@ -1,4 +1,6 @@
 // Bits in bytes, in the order of `laws` Bits: marks gathered into a byte, and the low bits of one.
+#![tactic(auto)]
+
 ghost use Rattle.std.specs.Prelude.{◌≡◌, ◌+◌, ◌-◌, ◌≤◌, eqb, ltb, length, get_or};
 ghost use Rattle.laws.specs.Bits.{number, byte};
 ghost use Rattle.laws.specs.Lists.{one};

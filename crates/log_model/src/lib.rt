@@ -1,4 +1,5 @@
 // The answers of document 02, R-1. The format of a log and what its reader answers stand in specs/.
+#![tactic(auto)]
 
 // The length of the log that was written, or a refusal.
 #[derive(Clone, Copy)]

@@ -1,4 +1,6 @@
 // Numbers and floats in a list of bytes, the lowest byte first. Beyond the list's end there are zeros.
+#![tactic(auto)]
+
 ghost use Rattle.std.specs.Prelude.{◌≡◌, ◌+◌, ◌<◌, ◌≤◌, length};
 ghost use Rattle.std.specs.Float.Ieee.{of_bits};
 ghost use Rattle.std.specs.Float.{binary32, binary64};

@@ -23,9 +23,9 @@ use Rattle.model.specs.Layout.{block_channels, ladder_min, rung_count}
 use Rattle.model.specs.Ladder.{f8, root_of, ten_to, rung_value}
 use Rattle.model.specs.Stores.{bank_of, bank_len, bank_f_len, sound_bank}
 use Rattle.model.specs.Refusals.{block_size, garbled, bank_refusal, update_refusal}
-use Rattle.model.specs.Bank.{FloorBank, Hop, bank_step}
+use Rattle.model.specs.Bank.{FloorBank}
 use Rattle.model.specs.Calls.{leaves, bank_update_call}
-use Rattle.model.specs.Decibels.{highest_below, highest_rung, rung_db, power_db, NoRung, UpTo, Named, NanLowest, edges, AllAt, EdgesHold, LouderPower, decibels, linear_hop, NeverGarbled}
+use Rattle.model.specs.Decibels.{highest_below, highest_rung, rung_db, power_db, NoRung, Named, NanLowest, edges, AllAt, EdgesHold, LouderPower, decibels, NeverGarbled}
 use Rattle.model.proofs.RungValues.{value-next}
 
 -- ---- the highest of the rungs below n

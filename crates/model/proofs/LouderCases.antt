@@ -25,7 +25,7 @@ use Rattle.roles.specs.Rights.{technician, as_role}
 use Rattle.model.specs.Demand3.{Call, asked_by, bank, Stores, Lent, step, answer, left, with, bank_hop, bank_hops, bank_in, Making, new_bank, made}
 use Rattle.model.specs.Louder.{HopAtLeast, AtLeast, Louder, after, Somewhere, Rises, CanRise, Falls, CanFall}
 use Rattle.model.proofs.SettledFloors.{run_bank, n-run}
-use Rattle.model.proofs.Calls.{SoundBank, left-bank, bank-left, refuse, bank-answer, refuse_asked}
+use Rattle.model.proofs.Calls.{SoundBank, left-bank, bank-left, bank-answer, refuse_asked}
 use Rattle.model.proofs.Made.{bank-made, sound-bank-made, bank-hears}
 
 -- ---- one channel, no gate and no store of R-6

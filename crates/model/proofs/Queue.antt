@@ -2,15 +2,13 @@
 -- Assumes nothing.
 use mathlib.Core.Path.{◌≡◌, sym, ap, ◌∙◌}
 use mathlib.Core.List.{List, [], ◌∷◌, ◌++◌, append_assoc, append-nil}
-use mathlib.Core.Bool.{Bool, true, false}
 use Prim.Native.Nat.{ℕ, suc, ◌+◌, ◌-◌, ◌≤◌, ◌<◌, ◌%◌, min}
-use native.Mathlib.Nat.{zero-add, mod-eq_of_lt, mod_self}
+use native.Mathlib.Nat.{mod-eq_of_lt, mod_self}
 use native.Mathlib.Numerals.{add-one}
 use native.Mathlib.Decide.{dec_lt}
 use native.Mathlib.Omega.{arith}
 use lib.ListN.{length, get_or, set, take, drop, length-append, length-take, length-drop, length-set, take-append-drop, drop_of_length-le}
 use lib.Seq.{take_all, take-suc-set, drop-cons, drop-set-lt, drop-append-le, drop-drop, take-take}
-use lib.Dec.{eqb}
 use Rattle.laws.specs.Lists.{occ}
 use Rattle.laws.proofs.Counting.{occ-append}
 

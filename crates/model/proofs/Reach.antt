@@ -9,9 +9,9 @@ use lib.Ieee.{Float}
 use borrow.Author.Tests.{not-false}
 use Rattle.laws.specs.Tests.{within, differ, first}
 use Rattle.laws.proofs.Tests.{passed, within_of}
-use Rattle.model.specs.Bank.{FloorBank, Hop, fresh_bank, bank_step}
-use Rattle.model.specs.Stores.{bank_u16s, bank_floats, bank_of, bank_len, bank_f_len}
-use Rattle.model.specs.Refusals.{make_refusal, bank_refusal, update_refusal}
+use Rattle.model.specs.Bank.{FloorBank, fresh_bank, bank_step}
+use Rattle.model.specs.Stores.{bank_of, bank_len, bank_f_len}
+use Rattle.model.specs.Refusals.{make_refusal, update_refusal}
 use Rattle.model.specs.Calls.{leaves, bank_new_call, bank_update_call}
 use Rattle.model.specs.Reach.{Stores, BankCall, update, stores_in, left, left_by, stores_of, SoundStores, Reached, ReachedSound}
 use Rattle.model.specs.GoodBank.{Good, Ready}

@@ -1,21 +1,20 @@
 -- R-14: a gate remade is the gate made with those settings. Assumes nothing.
 use mathlib.Core.Path.{◌≡◌, refl, sym, ap, ap₂, ◌∙◌}
-use mathlib.Core.Bool.{Bool, true, false, cond, not, ◌&&◌, ◌||◌}
+use mathlib.Core.Bool.{true, false, not, ◌&&◌, ◌||◌}
 use mathlib.Core.List.{List, [], ◌∷◌}
 use Prim.Native.Nat.{ℕ, zero, suc, ◌+◌, ◌*◌, ◌<◌}
 use native.Mathlib.Omega.{arith}
-use lib.Dec.{eqb}
 use lib.ListN.{length, get_or}
 use lib.IntN.{ℤ}
 use lib.Ieee.{Float}
 use borrow.Author.Tests.{not-false, eq-eqb, ne_eqb}
 use Rattle.laws.specs.Lists.{tab_from, tab}
-use Rattle.laws.specs.Tests.{within, differ, first}
+use Rattle.laws.specs.Tests.{within, first}
 use Rattle.laws.proofs.Tests.{inside}
 use Rattle.laws.proofs.Tabs.{length-tab, get_d-tab}
-use Rattle.model.specs.Gate.{among, distinct, fresh_gate}
+use Rattle.model.specs.Gate.{among, distinct}
 use Rattle.model.specs.GateStores.{m_at, look_start, look_size, floats, gate_f_len}
-use Rattle.model.specs.GateCalls.{all_within, good_lengths, good_level, absent, floats_for, gate_make_refusal, gate_refusal, settings_of, gate_leaves, gate_new_call}
+use Rattle.model.specs.GateCalls.{all_within, good_lengths, good_level, absent, floats_for, gate_make_refusal, gate_new_call}
 use Rattle.model.specs.GoodGate.{GateReady}
 use Rattle.model.specs.Remake.{lengths_in, remake_refusal, gate_remake_call, Remade}
 use Rattle.model.proofs.GoodGates.{gate-ready, sizes, look-good, look-of, count_of}

@@ -18,7 +18,6 @@ use Rattle.model.specs.GoodGate.{GoodGate}
 use Rattle.model.specs.Map.{map_long}
 use Rattle.model.specs.MapCalls.{map_refusal}
 use Rattle.model.specs.Demand3.{Asked, Call, bank, gate, hold, write, Stores, Lent, AskedWith, does, step, answer, left, with, exported, marks_before, gate_hop, bank_in, Making, made, Made}
-use Rattle.roles.specs.Rights.{as_role}
 use Rattle.roles.proofs.Roles.{both-by-role}
 use Rattle.model.specs.Sets.{gate_in, Sound}
 use Rattle.model.specs.Anew.{rise_bytes_anew, marks_anew, gate_update_anew, gate_hold_anew, done_anew, left_anew, shown_anew, seen_anew, all_seen_anew}

@@ -1,28 +1,24 @@
 -- R-14: R-3, sound stores and demand 3 for a set whose gate was remade. Assumes nothing.
 use mathlib.Core.Path.{◌≡◌, refl, sym, ap, ap₂, ◌∙◌, subst}
-use mathlib.Core.Bool.{not, ◌&&◌, ◌||◌}
 use mathlib.Core.List.{List, [], ◌∷◌, ◌++◌, map, append_assoc, append-nil}
 use Prim.Native.Nat.{ℕ, zero, suc}
-use native.Mathlib.Omega.{arith}
 use lib.ListN.{length, get_or, replicate}
 use lib.IntN.{ℤ}
 use lib.Ieee.{Float, nan}
-use Rattle.laws.specs.Lists.{tab}
-use Rattle.laws.specs.Tests.{first}
 use Rattle.laws.proofs.Tabs.{map-tab}
 use Rattle.model.specs.Numbers.{f0}
 use Rattle.model.specs.Bank.{FloorBank, Hop}
 use Rattle.model.specs.Windows.{PowerLooks, fresh_look}
-use Rattle.model.specs.Gate.{Gate, Settings, distinct, fresh_gate}
+use Rattle.model.specs.Gate.{Gate, distinct, fresh_gate}
 use Rattle.model.specs.GateStores.{gate_u16s, gate_floats, gate_of}
-use Rattle.model.specs.GateCalls.{GateHop, stored, good_level, absent, gate_make_refusal, gate_refusal, settings_of, gate_leaves}
+use Rattle.model.specs.GateCalls.{GateHop, stored, gate_make_refusal, settings_of, gate_leaves}
 use Rattle.model.specs.MapCalls.{map_refusal}
 use Rattle.model.specs.GoodGate.{GoodGate, GateReady}
 use Rattle.roles.specs.Rights.{gate_remake}
-use Rattle.model.specs.Demand3.{Call, Stores, step, answer, left, with, bank_in, bank_hop, gate_hop, Making, Lent, made, Made}
+use Rattle.model.specs.Demand3.{Call, Stores, answer, left, with, bank_hop, gate_hop, Making, Lent, made, Made}
 use Rattle.model.specs.Sets.{gate_in, Sound}
 use Rattle.model.specs.Remembered.{PairsTrue}
-use Rattle.model.specs.Remake.{lengths_in, remake_refusal, gate_remake_call, Turn, call, remake, Levels, turn, turned, turn_hop, hops_heard, since_fresh, hops_since_fresh, in_force, levels_in_force, levels_of, with_levels, SameBands, StayTrueRemade, StaySoundRemade, Season}
+use Rattle.model.specs.Remake.{lengths_in, remake_refusal, gate_remake_call, Turn, call, remake, Levels, turn, turned, turn_hop, hops_heard, since_fresh, hops_since_fresh, in_force, levels_in_force, levels_of, with_levels, StayTrueRemade, StaySoundRemade, Season}
 use Rattle.model.proofs.GoodGates.{gate-ready, gate-back, gate_passes, n-of, looks-of}
 use Rattle.model.proofs.FreshGates.{bare, good-fresh-gate}
 use Rattle.model.proofs.Pairs.{true-fresh}

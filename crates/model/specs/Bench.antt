@@ -1,12 +1,12 @@
 -- Document 01, "Bench values", a to f as R-11 moves them: one table of cases, and one theorem that each holds of the definitions.
-use Rattle.std.specs.Prelude.{◌≡◌, refl, List, [], ◌∷◌, ◌++◌, true, false, ℕ, zero, suc, get_or, replicate, Float}
+use Rattle.std.specs.Prelude.{◌≡◌, refl, List, [], ◌∷◌, ◌++◌, true, false, ℕ, get_or, replicate, Float}
 use Rattle.std.specs.Float.{nan, inf, binary64}
 use Rattle.std.specs.Float.Ieee.{neg, sub, add, div, mul, lt, le, is_nan, of_bits, of_int, round, sum, odd, units, size, span, climb, of_fields}
 use Rattle.std.specs.Int.Count.{count_trailing_zeros}
 use Rattle.model.specs.Numbers.{f0}
 use Rattle.model.specs.Layout.{ring_len}
 use Rattle.model.specs.Ring.{ChannelFloor, floor_held, bin_of, push, push_as, push_in, without, insert, sorted, smallest, quartile, raw_floor, usable_floor}
-use Rattle.model.specs.Bank.{FloorBank, Hop, first_at, ranked, median, fresh_channel, fresh_bank, smooth_after, seeds_after, sums_after, chans_after, raw_floors, usable_floors, block_floors, rise_floors, effective_floor, rise_floor, slow_step, fast_step, bank_step}
+use Rattle.model.specs.Bank.{FloorBank, first_at, ranked, median, fresh_channel, fresh_bank, smooth_after, seeds_after, sums_after, chans_after, raw_floors, usable_floors, block_floors, rise_floors, effective_floor, rise_floor, slow_step, fast_step, bank_step}
 use Rattle.model.specs.Readings.{effective_at, rise_at}
 use Rattle.model.specs.Ladder.{root_of}
 use Rattle.model.specs.Windows.{PowerLooks, beside_stronger, look_rises}

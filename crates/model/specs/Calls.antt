@@ -1,5 +1,5 @@
 -- What each call of the bank answers and leaves: the answer, the u16 store, the f64 store. A refusal changes nothing.
-use Rattle.std.specs.Prelude.{Bool, cond, not, List, ℕ, zero, suc, length, Float}
+use Rattle.std.specs.Prelude.{cond, List, ℕ, zero, suc, length, Float}
 use Rattle.laws.specs.Tests.{within}
 use Rattle.model.specs.Bank.{FloorBank, Hop, fresh_bank, bank_step}
 use Rattle.model.specs.Stores.{bank_u16s, bank_floats, bank_of, bank_len, bank_f_len}

@@ -1,5 +1,5 @@
 -- Document 01, "Windows, ladder, gate": the gate, its update and what it judges.
-use Rattle.std.specs.Prelude.{◌≡◌, refl, Bool, true, false, not, cond, ◌&&◌, ◌||◌, List, [], ◌∷◌, map, ℕ, zero, suc, eqb, get_or, replicate, pos, Float}
+use Rattle.std.specs.Prelude.{◌≡◌, refl, Bool, false, not, cond, ◌&&◌, ◌||◌, List, [], ◌∷◌, map, ℕ, zero, suc, eqb, get_or, replicate, pos, Float}
 use Rattle.std.specs.Float.{nan, binary64}
 use Rattle.std.specs.Float.Ieee.{add, sub, div, lt, le, ne, of_int, of_bits, round}
 use Rattle.laws.specs.Lists.{tab, one}

@@ -1,5 +1,5 @@
 -- Document 01, "Stores", the gate's half: how a gate lies in its two lent stores, and when they are sound.
-use Rattle.std.specs.Prelude.{Bool, true, false, not, cond, ◌&&◌, ◌||◌, List, [], ◌∷◌, ◌++◌, map, ℕ, zero, suc, ◌+◌, ◌-◌, ◌*◌, eqb, ltb, leb, length, get_or, replicate, Float}
+use Rattle.std.specs.Prelude.{Bool, true, not, cond, ◌&&◌, ◌||◌, List, [], ◌∷◌, ◌++◌, map, ℕ, zero, suc, ◌+◌, ◌-◌, ◌*◌, eqb, ltb, leb, length, get_or, replicate, Float}
 use Rattle.laws.specs.Lists.{part, tab, joined}
 use Rattle.laws.specs.Tests.{all_below, within}
 use Rattle.model.specs.Windows.{PowerLooks}

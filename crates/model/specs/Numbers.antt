@@ -1,6 +1,6 @@
 -- Document 01, "Carried over from manta": the numbers, over the logic's account of IEEE 754 (`lib.Ieee`), where all NaNs are one value.
 -- A literal stands as the bit pattern that the compiler gives it; the line below each says which decimal that is, rounded to binary64.
-use Rattle.std.specs.Prelude.{◌≡◌, refl, true, false, cond, Float}
+use Rattle.std.specs.Prelude.{◌≡◌, refl, false, cond, Float}
 use Rattle.std.specs.Float.{binary64}
 use Rattle.std.specs.Float.Ieee.{add, sub, mul, lt, is_nan, of_bits, round}
 

@@ -1,5 +1,5 @@
 -- Document 01, "Readings", the bank's half.
-use Rattle.std.specs.Prelude.{◌≡◌, cond, true, false, List, [], ◌∷◌, ℕ, zero, suc, ◌+◌, ◌-◌, ◌*◌, ◌/◌, ◌%◌, eqb, get_or, Float}
+use Rattle.std.specs.Prelude.{◌≡◌, cond, false, List, ℕ, zero, suc, ◌+◌, ◌-◌, ◌*◌, ◌/◌, ◌%◌, eqb, get_or, Float}
 use Rattle.std.specs.Borrow.{Bor}
 use Rattle.std.specs.Float.{inf}
 use Rattle.laws.specs.Lists.{part}

@@ -1,5 +1,5 @@
 -- Document 01, the refusals and their order. 0 is no refusal.
-use Rattle.std.specs.Prelude.{Bool, true, false, not, ◌&&◌, ◌||◌, List, ℕ, ◌-◌, ◌*◌, ◌/◌, min, eqb, ltb, length, get_or, Float}
+use Rattle.std.specs.Prelude.{Bool, not, ◌&&◌, ◌||◌, List, ℕ, ◌-◌, ◌*◌, ◌/◌, min, eqb, ltb, length, get_or, Float}
 use Rattle.std.specs.Float.Ieee.{is_nan}
 use Rattle.laws.specs.Tests.{any_below, within, differ, first}
 use Rattle.model.specs.Numbers.{f0}

@@ -1,7 +1,7 @@
 -- Document 02, R-14: "remake a gate with new levels: n and lengths stay, the rest is fresh, and the checks are the gate store, then 4". A set whose
 -- leader remade its gate in mid-season keeps demand 3, counted since its gate was last fresh. The proofs are `remade` in proofs/Remake.antt and
 -- `season`, `stay-true-remade` and `stay-sound-remade` in proofs/Season.antt.
-use Rattle.std.specs.Prelude.{◌≡◌, Bool, true, not, ◌&&◌, ◌||◌, List, [], ◌∷◌, ◌++◌, map, ℕ, zero, suc, ◌*◌, ◌%◌, length, get_or, ℤ, Float}
+use Rattle.std.specs.Prelude.{◌≡◌, true, not, ◌&&◌, ◌||◌, List, [], ◌∷◌, ◌++◌, map, ℕ, zero, suc, ◌*◌, ◌%◌, length, get_or, ℤ, Float}
 use Rattle.laws.specs.Lists.{tab}
 use Rattle.laws.specs.Tests.{first}
 use Rattle.model.specs.Layout.{decimation_hops}

@@ -1,5 +1,5 @@
 -- Document 01, "Stores": how a bank lies in its two lent stores, and when a store is sound.
-use Rattle.std.specs.Prelude.{Bool, true, false, cond, ◌&&◌, List, [], ◌∷◌, ◌++◌, map, ℕ, ◌+◌, ◌*◌, eqb, ltb, leb, get_or, Float}
+use Rattle.std.specs.Prelude.{Bool, true, cond, ◌&&◌, List, [], ◌∷◌, ◌++◌, map, ℕ, ◌+◌, ◌*◌, eqb, ltb, leb, get_or, Float}
 use Rattle.laws.specs.Lists.{part, tab, joined, occ}
 use Rattle.laws.specs.Tests.{all_below}
 use Rattle.model.specs.Layout.{bins, ring_len, at_counts, at_next, at_filled, at_lead, channel_len, decimation_hops}

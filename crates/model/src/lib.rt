@@ -1,4 +1,6 @@
 // The types that answers have by name in document 01, and the layout in numbers. Its definitions stand in specs/, section by section.
+#![tactic(auto)]
+
 pub mod layout;
 
 // A reading is either a value or a refusal number.

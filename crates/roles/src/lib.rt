@@ -1,5 +1,7 @@
 // Document 02, R-14: whether a role has a right. The table of rights, for each exported call, stands in specs/; a row of the C interface names the
 // right that it asks for.
+#![tactic(auto)]
+
 ghost use Rattle.std.specs.Prelude.{◌≡◌, ◌&&◌, leb};
 ghost use Rattle.roles.specs.Rights.{technician};
 
