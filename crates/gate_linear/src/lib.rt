@@ -1,4 +1,6 @@
 // Document 02, R-13: a gate update from linear power alone.
+#![tactic(auto)]
+
 ghost use Rattle.std.specs.Prelude.{◌≡◌};
 ghost use Rattle.model.specs.GateCalls.{gate_update_call};
 ghost use Rattle.model.specs.Decibels.{linear_gate_hop};

@@ -1,4 +1,6 @@
 // Document 02, R-13 with R-12: a gate update from linear power alone that carries a map.
+#![tactic(auto)]
+
 ghost use Rattle.std.specs.Prelude.{◌≡◌};
 ghost use Rattle.model.specs.MapCalls.{gate_update_map_call};
 ghost use Rattle.model.specs.Decibels.{linear_gate_hop};

@@ -21,22 +21,22 @@ use Rattle.gate_linear.proofs.gate_update_linear.Statement.{statement}
 use Rattle.gate_linear.proofs.gate_update_linear.Tie as tie
 
 abbrev start : tie.After-gate_update_refusal-refusal → tie.Start
-start q = q.before.before.before.before.before.before.before.before.before.before
+start q = q.before.before.before.before.before.before.before.before
 
 -- as many dB as powers are measured
 measured : (q : tie.After-gate_update_refusal-refusal)
     → let s = start q in
-    q.gate_update_refusal-refusal.result ≡ gate_update_refusal s.args.bank.now s.args.bank_f.now s.args.gate_1.now s.args.gate_f_1.now (length (decibels s.args.power.now)) (length s.args.power.now) (length s.args.rise_1.now) (length s.args.drop_1.now)
+    q.gate_update_refusal-refusal.result ≡ gate_update_refusal s.args.bank.now s.args.bank_f.now s.args.gate.now s.args.gate_f.now (length (decibels s.args.power.now)) (length s.args.power.now) (length s.args.rise.now) (length s.args.drop.now)
 measured q = let s = start q in
     q.gate_update_refusal-refusal.ensures
-    ∙ ap (λ (n : ℕ). gate_update_refusal s.args.bank.now s.args.bank_f.now s.args.gate_1.now s.args.gate_f_1.now n (length s.args.power.now) (length s.args.rise_1.now) (length s.args.drop_1.now)) (sym (decibels-long s.args.power.now))
+    ∙ ap (λ (n : ℕ). gate_update_refusal s.args.bank.now s.args.bank_f.now s.args.gate.now s.args.gate_f.now n (length s.args.power.now) (length s.args.rise.now) (length s.args.drop.now)) (sym (decibels-long s.args.power.now))
 
 -- past the test the update is not refused
 asked : (e : tie.Else-refusal-ne0)
     → let s = start e.before in
-    Takes s.args.bank.now s.args.bank_f.now s.args.gate_1.now s.args.gate_f_1.now (length (decibels s.args.power.now)) (length s.args.power.now) (length s.args.rise_1.now) (length s.args.drop_1.now)
+    Takes s.args.bank.now s.args.bank_f.now s.args.gate.now s.args.gate_f.now (length (decibels s.args.power.now)) (length s.args.power.now) (length s.args.rise.now) (length s.args.drop.now)
 asked e = let s = start e.before in
-    update-asked s.args.bank.now s.args.bank_f.now s.args.gate_1.now s.args.gate_f_1.now (length (decibels s.args.power.now)) (length s.args.power.now) (length s.args.rise_1.now) (length s.args.drop_1.now) (sym (measured e.before) ∙ e.if-refusal-ne0.false)
+    update-asked s.args.bank.now s.args.bank_f.now s.args.gate.now s.args.gate_f.now (length (decibels s.args.power.now)) (length s.args.power.now) (length s.args.rise.now) (length s.args.drop.now) (sym (measured e.before) ∙ e.if-refusal-ne0.false)
 
 -- the hop taken with the dB that were worked out
 with-db : (g : Gate) (b : FloorBank) (power db db' : List Float) (u : List ℕ) (f : List Float) (rise drop : List ℕ) → db ≡ db'
@@ -55,12 +55,12 @@ same-length-2 c = search rules
 returns : tie.Need-returns-then-refusal-ne0
 returns c = let q = c.before in
     let s = start q in
-    update-refused s.args.bank.now s.args.bank_f.now s.args.gate_1.now s.args.gate_f_1.now (linear_gate_hop s.args.power.now) s.args.rise_1.now s.args.drop_1.now q.gate_update_refusal-refusal.result (measured q) c.if-refusal-ne0.true
+    update-refused s.args.bank.now s.args.bank_f.now s.args.gate.now s.args.gate_f.now (linear_gate_hop s.args.power.now) s.args.rise.now s.args.drop.now q.gate_update_refusal-refusal.result (measured q) c.if-refusal-ne0.true
 
 hop-db-requires : tie.Need-hop_db-db-requires
 hop-db-requires c κs = let s = start c.before in
     let a = asked c in
-    let h : length s.args.power.now ≤ 512 = omega (arith, a.power_long, a.paired.gate-1.good.high, n-of s.args.gate_1.now s.args.gate_f_1.now) in
+    let h : length s.args.power.now ≤ 512 = omega (arith, a.power_long, a.paired.gate.good.high, n-of s.args.gate.now s.args.gate_f.now) in
     h
 
 array-share-prefix-db : tie.Need-slice_bounds-db-end
@@ -99,8 +99,8 @@ returns-2 : tie.Need-returns
 returns-2 c = let t = c.before.before.before.before.before.before.before.before in
     let d = t.before.before.before.before.before.before in
     let s = start d.before.before in
-    updated s.args.bank.now s.args.bank_f.now s.args.gate_1.now s.args.gate_f_1.now (linear_gate_hop s.args.power.now) s.args.rise_1.now s.args.drop_1.now _ _ _ _ (sym (measured d.before.before) ∙ d.before.if-refusal-ne0.false)
-    (with-db (gate_of s.args.gate_1.now s.args.gate_f_1.now) (bank_of s.args.bank.now s.args.bank_f.now) s.args.power.now _ _ _ _ _ _ d.hop_db-db.ensures t.take_hop.ensures)
+    updated s.args.bank.now s.args.bank_f.now s.args.gate.now s.args.gate_f.now (linear_gate_hop s.args.power.now) s.args.rise.now s.args.drop.now _ _ _ _ (sym (measured d.before.before) ∙ d.before.if-refusal-ne0.false)
+    (with-db (gate_of s.args.gate.now s.args.gate_f.now) (bank_of s.args.bank.now s.args.bank_f.now) s.args.power.now _ _ _ _ _ _ d.hop_db-db.ensures t.take_hop.ensures)
 
 pub gate_update_linear_spec : {M : Type 1} → statement M
 gate_update_linear_spec =

@@ -22,28 +22,28 @@ use Rattle.gate_linear_map.proofs.gate_update_linear_map.Statement.{statement}
 use Rattle.gate_linear_map.proofs.gate_update_linear_map.Tie as tie
 
 abbrev start : tie.After-update_map_refusal-refusal → tie.Start
-start q = q.before.before.before.before.before.before.before.before.before.before.before.before
+start q = q.before.before.before.before.before.before.before.before.before
 
 -- as many dB as powers are measured
 measured : (q : tie.After-update_map_refusal-refusal)
     → let s = start q in
-    q.update_map_refusal-refusal.result ≡ update_map_refusal s.args.bank.now s.args.bank_f.now s.args.gate_1.now s.args.gate_f_1.now s.args.map_1.now (length (decibels s.args.power.now)) (length s.args.power.now) (length s.args.rise_1.now) (length s.args.drop_1.now)
+    q.update_map_refusal-refusal.result ≡ update_map_refusal s.args.bank.now s.args.bank_f.now s.args.gate.now s.args.gate_f.now s.args.map.now (length (decibels s.args.power.now)) (length s.args.power.now) (length s.args.rise.now) (length s.args.drop.now)
 measured q = let s = start q in
     q.update_map_refusal-refusal.ensures
-    ∙ ap (λ (n : ℕ). update_map_refusal s.args.bank.now s.args.bank_f.now s.args.gate_1.now s.args.gate_f_1.now s.args.map_1.now n (length s.args.power.now) (length s.args.rise_1.now) (length s.args.drop_1.now)) (sym (decibels-long s.args.power.now))
+    ∙ ap (λ (n : ℕ). update_map_refusal s.args.bank.now s.args.bank_f.now s.args.gate.now s.args.gate_f.now s.args.map.now n (length s.args.power.now) (length s.args.rise.now) (length s.args.drop.now)) (sym (decibels-long s.args.power.now))
 
 none : (e : tie.Else-refusal-ne0)
     → let s = start e.before in
-    update_map_refusal s.args.bank.now s.args.bank_f.now s.args.gate_1.now s.args.gate_f_1.now s.args.map_1.now (length (decibels s.args.power.now)) (length s.args.power.now) (length s.args.rise_1.now) (length s.args.drop_1.now) ≡ 0
+    update_map_refusal s.args.bank.now s.args.bank_f.now s.args.gate.now s.args.gate_f.now s.args.map.now (length (decibels s.args.power.now)) (length s.args.power.now) (length s.args.rise.now) (length s.args.drop.now) ≡ 0
 none e = sym (measured e.before) ∙ e.if-refusal-ne0.false
 
 -- past the test the update is not refused
 asked : (e : tie.Else-refusal-ne0)
     → let s = start e.before in
-    Beside s.args.bank.now s.args.bank_f.now s.args.gate_1.now s.args.gate_f_1.now s.args.map_1.now × (length (decibels s.args.power.now) ≡ get_or s.args.gate_1.now 0 0) × (length s.args.power.now ≡ get_or s.args.gate_1.now 0 0)
-    × (length s.args.rise_1.now ≡ get_or s.args.gate_1.now 0 0) × (length s.args.drop_1.now ≡ get_or s.args.gate_1.now 0 0)
+    Beside s.args.bank.now s.args.bank_f.now s.args.gate.now s.args.gate_f.now s.args.map.now × (length (decibels s.args.power.now) ≡ get_or s.args.gate.now 0 0) × (length s.args.power.now ≡ get_or s.args.gate.now 0 0)
+    × (length s.args.rise.now ≡ get_or s.args.gate.now 0 0) × (length s.args.drop.now ≡ get_or s.args.gate.now 0 0)
 asked e = let s = start e.before in
-    update-asked s.args.bank.now s.args.bank_f.now s.args.gate_1.now s.args.gate_f_1.now s.args.map_1.now (length (decibels s.args.power.now)) (length s.args.power.now) (length s.args.rise_1.now) (length s.args.drop_1.now) (none e)
+    update-asked s.args.bank.now s.args.bank_f.now s.args.gate.now s.args.gate_f.now s.args.map.now (length (decibels s.args.power.now)) (length s.args.power.now) (length s.args.rise.now) (length s.args.drop.now) (none e)
 
 -- the hop taken with the dB that were worked out
 with-db : (g : Gate) (b : FloorBank) (power db db' : List Float) (u : List ℕ) (f : List Float) (rise drop : List ℕ) → db ≡ db'
@@ -65,12 +65,12 @@ same-length-3 c = search rules
 returns : tie.Need-returns-then-refusal-ne0
 returns c = let q = c.before in
     let s = start q in
-    update-refused s.args.bank.now s.args.bank_f.now s.args.gate_1.now s.args.gate_f_1.now s.args.map_1.now (linear_gate_hop s.args.power.now) s.args.rise_1.now s.args.drop_1.now q.update_map_refusal-refusal.result (measured q) c.if-refusal-ne0.true
+    update-refused s.args.bank.now s.args.bank_f.now s.args.gate.now s.args.gate_f.now s.args.map.now (linear_gate_hop s.args.power.now) s.args.rise.now s.args.drop.now q.update_map_refusal-refusal.result (measured q) c.if-refusal-ne0.true
 
 hop-db-requires : tie.Need-hop_db-db-requires
 hop-db-requires c κs = let s = start c.before in
     let a = asked c in
-    let h : length s.args.power.now ≤ 512 = omega (arith, a.2, a.0.pair.gate-1.good.high, n-of s.args.gate_1.now s.args.gate_f_1.now) in
+    let h : length s.args.power.now ≤ 512 = omega (arith, a.2, a.0.pair.gate.good.high, n-of s.args.gate.now s.args.gate_f.now) in
     h
 
 array-share-prefix-db : tie.Need-slice_bounds-db-end
@@ -94,17 +94,17 @@ take-hop-requires c κs = let d = c.before.before.before.before.before in
     }
 
 set-marks-requires : tie.Need-set_marks-requires
-set-marks-requires c κs = let t = c.before.before.before.before.before.before.before.before.before.before.before in
+set-marks-requires c κs = let t = c.before.before.before.before.before.before.before.before.before in
     let d = t.before.before.before.before.before.before in
     let s = start d.before.before in
     let a = asked d.before in
-    let g = a.0.pair.gate-1.good in
-    let n = n-of s.args.gate_1.now s.args.gate_f_1.now in (
+    let g = a.0.pair.gate.good in
+    let n = n-of s.args.gate.now s.args.gate_f.now in (
       omega (arith, a.2, g.low, n),
       omega (arith, a.2, g.high, n),
       a.0.long ∙ ap map_long (sym a.2),
-      t.take_hop.auto.1.1.1.1.1.1.0 ∙ a.3 ∙ sym a.2,
-      t.take_hop.auto.1.1.1.1.1.1.1.0 ∙ a.4 ∙ sym a.2,
+      t.take_hop.auto.rise ∙ a.3 ∙ sym a.2,
+      t.take_hop.auto.drop ∙ a.4 ∙ sym a.2,
     )
 
 same-length-4 : tie.Need-shape_of-gate
@@ -123,12 +123,12 @@ same-length-8 : tie.Need-shape_of-drop
 same-length-8 c = search rules
 
 returns-2 : tie.Need-returns
-returns-2 c = let t = c.before.before.before.before.before.before.before.before.before.before.before.before.before.before in
+returns-2 c = let t = c.before.before.before.before.before.before.before.before.before.before.before.before in
     let d = t.before.before.before.before.before.before in
     let s = start d.before.before in
     let k =
-    with-db (gate_of s.args.gate_1.now s.args.gate_f_1.now) (bank_of s.args.bank.now s.args.bank_f.now) s.args.power.now _ _ _ _ _ _ d.hop_db-db.ensures t.take_hop.ensures in
-    updated s.args.bank.now s.args.bank_f.now s.args.gate_1.now s.args.gate_f_1.now s.args.map_1.now (linear_gate_hop s.args.power.now) s.args.rise_1.now s.args.drop_1.now (length s.args.power.now) _ _ _ _ _ (none d.before) (asked d.before).2
+    with-db (gate_of s.args.gate.now s.args.gate_f.now) (bank_of s.args.bank.now s.args.bank_f.now) s.args.power.now _ _ _ _ _ _ d.hop_db-db.ensures t.take_hop.ensures in
+    updated s.args.bank.now s.args.bank_f.now s.args.gate.now s.args.gate_f.now s.args.map.now (linear_gate_hop s.args.power.now) s.args.rise.now s.args.drop.now (length s.args.power.now) _ _ _ _ _ (none d.before) (asked d.before).2
     k.holds k.marked c.before.before.set_marks.ensures
 
 pub gate_update_linear_map_spec : {M : Type 1} → statement M
