@@ -17,25 +17,25 @@ use borrow.Author.Rules.{rules}
 use Rattle.gate_readings.proofs.ema_rise.Statement.{statement}
 use Rattle.gate_readings.proofs.ema_rise.Tie as tie
 
-early-refusal-requires : tie.Need-early-refusal-requires
+early-refusal-requires : tie.Need-early_refusal-no-requires
 early-refusal-requires c κs = search rules
 
-returns : tie.Need-returns
+returns : tie.Need-returns-then-no-ne0
 unfolding early_reading
-returns c = refused _ _ _ c.before.early-refusal.ensures c.if1.true
+returns c = refused _ _ _ c.before.early_refusal-no.ensures c.if-no-ne0.true
 
-early-mark-requires : tie.Need-early-mark-requires
+early-mark-requires : tie.Need-early_mark-requires
 early-mark-requires c κs = let s = c.before.before.before.before.before.before in
-    readable-pair s.args.bank.now s.args.bank-f.now s.args.gate.now s.args.gate-f.now s.args.k (sym c.before.early-refusal.ensures ∙ c.if1.false)
+    readable-pair s.args.bank.now s.args.bank_f.now s.args.gate.now s.args.gate_f.now s.args.k (sym c.before.early_refusal-no.ensures ∙ c.if-no-ne0.false)
 
-returns-2 : tie.Need-returns-2
+returns-2 : tie.Need-returns
 unfolding early_reading
 returns-2 c = let e = c.before in
     let s = e.before.before.before.before.before.before in
-    let G = gate_of s.args.gate.now s.args.gate-f.now in
-    let E = early_rise G (bank_of s.args.bank.now s.args.bank-f.now) s.args.k in
-    valued _ _ _ _ e.before.early-refusal.ensures e.if1.false
-    (c.early-mark.ensures ∙ ap (λ (t : ℕ). of_int binary64 (pos (one (not (eqb t 0) && E)))) (sym (started_of s.args.gate.now s.args.gate-f.now)))
+    let G = gate_of s.args.gate.now s.args.gate_f.now in
+    let E = early_rise G (bank_of s.args.bank.now s.args.bank_f.now) s.args.k in
+    valued _ _ _ _ e.before.early_refusal-no.ensures e.if-no-ne0.false
+    (c.early_mark.ensures ∙ ap (λ (t : ℕ). of_int binary64 (pos (one (not (eqb t 0) && E)))) (sym (started_of s.args.gate.now s.args.gate_f.now)))
 
-pub ema-rise-spec : {M : Type 1} → statement M
-ema-rise-spec = tie.close (tie.spec early-refusal-requires returns early-mark-requires returns-2)
+pub ema_rise_spec : {M : Type 1} → statement M
+ema_rise_spec = tie.close (tie.spec early-refusal-requires returns early-mark-requires returns-2)
