@@ -10,153 +10,153 @@ use borrow.Author.Rules.{rules}
 use Rattle.receive.proofs.run.Statement.{statement}
 use Rattle.receive.proofs.run.Tie as tie
 
-abbrev invariant-loop : tie.invariant-loop
+abbrev invariant-loop : tie.invariant-loop-i
 invariant-loop bank₀ bank-f₀ gate₀ gate-f₀ hold power-db power rise₀ drop₀ n at₀ marks₀ i₀ bank bank-f gate gate-f rise drop at marks i =
     Going n (alone bank₀ bank-f₀ gate₀ gate-f₀) (record { hold = hold; db = power-db; power = power; rise = rise₀; drop = drop₀ }) i at bank bank-f gate gate-f rise drop
     × (length bank ≡ length bank₀) × (length bank-f ≡ length bank-f₀) × (length gate ≡ length gate₀) × (length gate-f ≡ length gate-f₀) × (marks ≡ at)
 
-abbrev decreases-loop : tie.decreases-loop
+abbrev decreases-loop : tie.decreases-loop-i
 decreases-loop bank₀ bank-f₀ gate₀ gate-f₀ hold power-db power rise₀ drop₀ n at₀ marks₀ i₀ bank bank-f gate gate-f rise drop at marks i =
     length hold - i
 
 -- a turn's place in the code: the loop, and the start
-abbrev start : tie.At-loop invariant-loop decreases-loop → tie.Start invariant-loop decreases-loop
+abbrev start : tie.At-loop-i invariant-loop decreases-loop → tie.Start invariant-loop decreases-loop
 start l = l.before.before.before.before.before.before.before.before.before.before.before.before
 
 abbrev lent : tie.Start invariant-loop decreases-loop → Run
-lent s = record { hold = s.args.hold.now; db = s.args.power-db.now; power = s.args.power.now; rise = s.args.rise.now; drop = s.args.drop.now }
+lent s = record { hold = s.args.hold.now; db = s.args.power_db.now; power = s.args.power.now; rise = s.args.rise_1.now; drop = s.args.drop_1.now }
 
-lengths : (l : tie.At-loop invariant-loop decreases-loop) → Longs l.before.wide.result (lent (start l))
+lengths : (l : tie.At-loop-i invariant-loop decreases-loop) → Longs l.before.wide-n.result (lent (start l))
 lengths l = let s = start l in
-    longs l.before.wide.result s.args.bank.now s.args.bank-f.now s.args.gate.now s.args.gate-f.now (lent s) l.before.wide.ensures s.pre
+    longs l.before.wide-n.result s.args.bank_1.now s.args.bank_f_1.now s.args.gate_1.now s.args.gate_f_1.now (lent s) l.before.wide-n.ensures s.requires
 
-more : (c : tie.In-loop invariant-loop decreases-loop) → c.before.loop.i < length (start c.before).args.hold.now
+more : (c : tie.In-loop-i invariant-loop decreases-loop) → c.before.loop-i.i < length (start c.before).args.hold.now
 more c = omega arith
 
 -- and one more hop is counted by a usize
-counted : (c : tie.In-loop invariant-loop decreases-loop) → c.before.loop.i + 1 < 18446744073709551616
+counted : (c : tie.In-loop-i invariant-loop decreases-loop) → c.before.loop-i.i + 1 < 18446744073709551616
 counted c = omega arith
 
 -- the hop's places lie within the slices
-fits : (c : tie.In-loop invariant-loop decreases-loop) → (len : ℕ) → len ≡ length (start c.before).args.hold.now * c.before.before.wide.result
-    → c.before.loop.at + c.before.before.wide.result ≤ len
+fits : (c : tie.In-loop-i invariant-loop decreases-loop) → (len : ℕ) → len ≡ length (start c.before).args.hold.now * c.before.before.wide-n.result
+    → c.before.loop-i.at + c.before.before.wide-n.result ≤ len
 fits c = let l = c.before in
     let s = start l in
-    within l.before.wide.result _ (lent s) l.loop.i l.loop.at l.loop.bank l.loop.bank-f l.loop.gate l.loop.gate-f l.loop.rise l.loop.drop (lengths l) l.loop.invariant.0 (more c)
+    within l.before.wide-n.result _ (lent s) l.loop-i.i l.loop-i.at l.loop-i.bank-1 l.loop-i.bank_f-1 l.loop-i.gate-1 l.loop-i.gate_f-1 l.loop-i.rise-1 l.loop-i.drop-1 (lengths l) l.loop-i.invariant.0 (more c)
 
-slice-read-wide : tie.Need-slice-read-wide invariant-loop decreases-loop
+slice-read-wide : tie.Need-bounds-gate-0 invariant-loop decreases-loop
 slice-read-wide c = let s = c.before.before.before.before.before.before.before.before.before.before in
-    omega (arith, gate-thirty s.args.bank.now s.args.bank-f.now s.args.gate.now s.args.gate-f.now (lent s) s.requires)
+    omega (arith, gate-thirty s.args.bank_1.now s.args.bank_f_1.now s.args.gate_1.now s.args.gate_f_1.now (lent s) s.requires)
 
-wide-requires : tie.Need-wide-requires invariant-loop decreases-loop
+wide-requires : tie.Need-wide-n-requires invariant-loop decreases-loop
 wide-requires c κs = search rules
 
-loop-holds : tie.Need-loop-init invariant-loop decreases-loop
+loop-holds : tie.Need-loop-i-init invariant-loop decreases-loop
 loop-holds c = let s = c.before.before.before.before.before.before.before.before.before.before.before in
-    (begins c.wide.result s.args.bank.now s.args.bank-f.now s.args.gate.now s.args.gate-f.now (lent s) c.wide.ensures s.requires, refl, refl, refl, refl, refl)
+    (begins c.wide-n.result s.args.bank_1.now s.args.bank_f_1.now s.args.gate_1.now s.args.gate_f_1.now (lent s) c.wide-n.ensures s.requires, refl, refl, refl, refl, refl)
 
-add-e : tie.Need-overflow-add-e invariant-loop decreases-loop
+add-e : tie.Need-overflow_add-e invariant-loop decreases-loop
 add-e c = omega (arith, fits c _ (lengths c.before).db)
 
-add-marked : tie.Need-overflow-add-marked invariant-loop decreases-loop
-add-marked c = omega (arith, fits c _ (lengths c.before).db, c.before.loop.invariant.5)
+add-marked : tie.Need-overflow_add-marked invariant-loop decreases-loop
+add-marked c = omega (arith, fits c _ (lengths c.before).db, c.before.loop-i.invariant.5)
 
-shared-slice-read-take-hop : tie.Need-shared-slice-read-take-hop invariant-loop decreases-loop
+shared-slice-read-take-hop : tie.Need-bounds-hold-i invariant-loop decreases-loop
 shared-slice-read-take-hop c = search rules
 
-mul-take-hop : tie.Need-overflow-mul-take-hop invariant-loop decreases-loop
+mul-take-hop : tie.Need-offset_bounds-power_db-at invariant-loop decreases-loop
 mul-take-hop c = let c' = c.before.before.before.before.before in
     omega (arith, fits c' _ (lengths c'.before).db)
 
-sub-take-hop : tie.Need-overflow-sub-take-hop invariant-loop decreases-loop
+sub-take-hop : tie.Need-slice_bounds-take_hop-count invariant-loop decreases-loop
 sub-take-hop c = search rules
 
-part-take-hop-start : tie.Need-slice-bounds-take-hop-start invariant-loop decreases-loop
+part-take-hop-start : tie.Need-slice_bounds-take_hop-start invariant-loop decreases-loop
 part-take-hop-start c = search rules
 
-part-take-hop-end : tie.Need-slice-bounds-take-hop-end invariant-loop decreases-loop
+part-take-hop-end : tie.Need-slice_bounds-take_hop-end invariant-loop decreases-loop
 part-take-hop-end c = let c' = c.before.before.before.before.before in
     omega (arith, fits c' _ (lengths c'.before).db)
 
-mul-take-hop-2 : tie.Need-overflow-mul-take-hop-2 invariant-loop decreases-loop
+mul-take-hop-2 : tie.Need-offset_bounds-power-at invariant-loop decreases-loop
 mul-take-hop-2 c = let c' = c.before.before.before.before.before.before in
     omega (arith, fits c' _ (lengths c'.before).power)
 
-sub-take-hop-2 : tie.Need-overflow-sub-take-hop-2 invariant-loop decreases-loop
+sub-take-hop-2 : tie.Need-slice_bounds-take_hop-count-in-loop-i invariant-loop decreases-loop
 sub-take-hop-2 c = search rules
 
-part-take-hop-start-2 : tie.Need-slice-bounds-take-hop-start-2 invariant-loop decreases-loop
+part-take-hop-start-2 : tie.Need-slice_bounds-take_hop-start-in-loop-i invariant-loop decreases-loop
 part-take-hop-start-2 c = search rules
 
-part-take-hop-end-2 : tie.Need-slice-bounds-take-hop-end-2 invariant-loop decreases-loop
+part-take-hop-end-2 : tie.Need-slice_bounds-take_hop-end-in-loop-i invariant-loop decreases-loop
 part-take-hop-end-2 c = let c' = c.before.before.before.before.before.before in
     omega (arith, fits c' _ (lengths c'.before).power)
 
-sub-take-hop-3 : tie.Need-overflow-sub-take-hop-3 invariant-loop decreases-loop
+sub-take-hop-3 : tie.Need-slice_bounds-take_hop-count-in-loop-i-2 invariant-loop decreases-loop
 sub-take-hop-3 c = search rules
 
-part-take-hop-start-3 : tie.Need-slice-bounds-take-hop-start-3 invariant-loop decreases-loop
+part-take-hop-start-3 : tie.Need-slice_bounds-take_hop-start-in-loop-i-2 invariant-loop decreases-loop
 part-take-hop-start-3 c = search rules
 
-part-take-hop-end-3 : tie.Need-slice-bounds-take-hop-end-3 invariant-loop decreases-loop
+part-take-hop-end-3 : tie.Need-slice_bounds-take_hop-end-in-loop-i-2 invariant-loop decreases-loop
 part-take-hop-end-3 c = let c' = c.before.before.before.before.before.before.before in
-    omega (arith, fits c' _ c'.before.loop.invariant.0.rises.long, c'.before.loop.invariant.5)
+    omega (arith, fits c' _ c'.before.loop-i.invariant.0.rises.long, c'.before.loop-i.invariant.5)
 
-sub-take-hop-4 : tie.Need-overflow-sub-take-hop-4 invariant-loop decreases-loop
+sub-take-hop-4 : tie.Need-slice_bounds-take_hop-count-in-loop-i-3 invariant-loop decreases-loop
 sub-take-hop-4 c = search rules
 
-part-take-hop-start-4 : tie.Need-slice-bounds-take-hop-start-4 invariant-loop decreases-loop
+part-take-hop-start-4 : tie.Need-slice_bounds-take_hop-start-in-loop-i-3 invariant-loop decreases-loop
 part-take-hop-start-4 c = search rules
 
-part-take-hop-end-4 : tie.Need-slice-bounds-take-hop-end-4 invariant-loop decreases-loop
+part-take-hop-end-4 : tie.Need-slice_bounds-take_hop-end-in-loop-i-3 invariant-loop decreases-loop
 part-take-hop-end-4 c = let c' = c.before.before.before.before.before.before.before.before in
-    omega (arith, fits c' _ c'.before.loop.invariant.0.drops.long, c'.before.loop.invariant.5)
+    omega (arith, fits c' _ c'.before.loop-i.invariant.0.drops.long, c'.before.loop-i.invariant.5)
 
-take-hop-requires : tie.Need-take-hop-requires invariant-loop decreases-loop
+take-hop-requires : tie.Need-take_hop-requires invariant-loop decreases-loop
 take-hop-requires c κs = let l = c.before.before.before.before.before.before.before.before.before.before in
-    hop-taken-by l.before.wide.result _ (lent (start l)) l.loop.i l.loop.at l.loop.bank l.loop.bank-f l.loop.gate l.loop.gate-f l.loop.rise l.loop.drop (lengths l) l.loop.invariant.0 (more c.before.before.before.before.before.before.before.before.before) _ (width l.loop.at l.before.wide.result) l.loop.marks l.loop.invariant.5 _ (width l.loop.marks l.before.wide.result)
+    hop-taken-by l.before.wide-n.result _ (lent (start l)) l.loop-i.i l.loop-i.at l.loop-i.bank-1 l.loop-i.bank_f-1 l.loop-i.gate-1 l.loop-i.gate_f-1 l.loop-i.rise-1 l.loop-i.drop-1 (lengths l) l.loop-i.invariant.0 (more c.before.before.before.before.before.before.before.before.before) _ (width l.loop-i.at l.before.wide-n.result) l.loop-i.marks l.loop-i.invariant.5 _ (width l.loop-i.marks l.before.wide-n.result)
 
-add-i : tie.Need-overflow-add-i invariant-loop decreases-loop
+add-i : tie.Need-overflow_add-i invariant-loop decreases-loop
 add-i c = omega (arith, counted c.before.before.before.before.before.before.before.before.before.before.before.before.before.before.before.before.before.before.before.before.before.before)
 
-loop-less : tie.Need-loop-smaller invariant-loop decreases-loop
+loop-less : tie.Need-loop-i-smaller invariant-loop decreases-loop
 loop-less c = omega (arith, more c.before.before.before.before.before.before.before.before.before.before.before.before.before.before.before.before.before.before.before.before.before.before)
 
-loop-again : tie.Need-loop-preserved invariant-loop decreases-loop
+loop-again : tie.Need-loop-i-preserved invariant-loop decreases-loop
 loop-again c = let t = c.before.before.before.before.before.before.before.before.before.before.before.before in
     let l = t.before.before.before.before.before.before.before.before.before.before.before in (
-      goes-on-by l.before.wide.result _ (lent (start l)) l.loop.i l.loop.at l.loop.bank l.loop.bank-f l.loop.gate l.loop.gate-f l.loop.rise l.loop.drop (lengths l) l.loop.invariant.0 (more t.before.before.before.before.before.before.before.before.before.before) _ (width l.loop.at l.before.wide.result) l.loop.marks l.loop.invariant.5 _ (width l.loop.marks l.before.wide.result) _ _ _ _ _ _ t.take-hop.ensures t.take-hop.auto.1.1.1.1.1.1.1.0 t.take-hop.auto.1.1.1.1.1.1.1.1.0,
-      t.take-hop.auto.0 ∙ l.loop.invariant.1,
-      t.take-hop.auto.1.0 ∙ l.loop.invariant.2,
-      t.take-hop.auto.1.1.0 ∙ l.loop.invariant.3,
-      t.take-hop.auto.1.1.1.0 ∙ l.loop.invariant.4,
-      ap (λ (x : ℕ). x + l.before.wide.result) l.loop.invariant.5,
+      goes-on-by l.before.wide-n.result _ (lent (start l)) l.loop-i.i l.loop-i.at l.loop-i.bank-1 l.loop-i.bank_f-1 l.loop-i.gate-1 l.loop-i.gate_f-1 l.loop-i.rise-1 l.loop-i.drop-1 (lengths l) l.loop-i.invariant.0 (more t.before.before.before.before.before.before.before.before.before.before) _ (width l.loop-i.at l.before.wide-n.result) l.loop-i.marks l.loop-i.invariant.5 _ (width l.loop-i.marks l.before.wide-n.result) _ _ _ _ _ _ t.take_hop.ensures t.take_hop.auto.1.1.1.1.1.1.1.0 t.take_hop.auto.1.1.1.1.1.1.1.1.0,
+      t.take_hop.auto.0 ∙ l.loop-i.invariant.1,
+      t.take_hop.auto.1.0 ∙ l.loop-i.invariant.2,
+      t.take_hop.auto.1.1.0 ∙ l.loop-i.invariant.3,
+      t.take_hop.auto.1.1.1.0 ∙ l.loop-i.invariant.4,
+      ap (λ (x : ℕ). x + l.before.wide-n.result) l.loop-i.invariant.5,
     )
 
-same_length : tie.Need-same-length invariant-loop decreases-loop
-same_length c = c.before.loop.invariant.1
+same_length : tie.Need-shape_of-bank invariant-loop decreases-loop
+same_length c = c.before.loop-i.invariant.1
 
-same-length-2 : tie.Need-same-length-2 invariant-loop decreases-loop
-same-length-2 c = c.before.loop.invariant.2
+same-length-2 : tie.Need-shape_of-bank_f invariant-loop decreases-loop
+same-length-2 c = c.before.loop-i.invariant.2
 
-same-length-3 : tie.Need-same-length-3 invariant-loop decreases-loop
-same-length-3 c = c.before.loop.invariant.3
+same-length-3 : tie.Need-shape_of-gate invariant-loop decreases-loop
+same-length-3 c = c.before.loop-i.invariant.3
 
-same-length-4 : tie.Need-same-length-4 invariant-loop decreases-loop
-same-length-4 c = c.before.loop.invariant.4
+same-length-4 : tie.Need-shape_of-gate_f invariant-loop decreases-loop
+same-length-4 c = c.before.loop-i.invariant.4
 
-same-length-5 : tie.Need-same-length-5 invariant-loop decreases-loop
-same-length-5 c = c.before.loop.invariant.0.rises.long ∙ sym (lengths c.before).rise
+same-length-5 : tie.Need-shape_of-rise invariant-loop decreases-loop
+same-length-5 c = c.before.loop-i.invariant.0.rises.long ∙ sym (lengths c.before).rise-1
 
-same-length-6 : tie.Need-same-length-6 invariant-loop decreases-loop
-same-length-6 c = c.before.loop.invariant.0.drops.long ∙ sym (lengths c.before).drop
+same-length-6 : tie.Need-shape_of-drop invariant-loop decreases-loop
+same-length-6 c = c.before.loop-i.invariant.0.drops.long ∙ sym (lengths c.before).drop-1
 
 returns : tie.Need-returns invariant-loop decreases-loop
 unfolding received
 returns c = let l = c.before in
     let s = start l in
-    ends l.before.wide.result (alone s.args.bank.now s.args.bank-f.now s.args.gate.now s.args.gate-f.now) (lent s) l.loop.i l.loop.at l.loop.bank l.loop.bank-f
-    l.loop.gate l.loop.gate-f l.loop.rise l.loop.drop l.loop.invariant.0 (omega (arith, l.loop.invariant.0.few)) l.before.wide.ensures _ s.pre
+    ends l.before.wide-n.result (alone s.args.bank_1.now s.args.bank_f_1.now s.args.gate_1.now s.args.gate_f_1.now) (lent s) l.loop-i.i l.loop-i.at l.loop-i.bank-1 l.loop-i.bank_f-1
+    l.loop-i.gate-1 l.loop-i.gate_f-1 l.loop-i.rise-1 l.loop-i.drop-1 l.loop-i.invariant.0 (omega (arith, l.loop-i.invariant.0.few)) l.before.wide-n.ensures _ s.requires
 
 pub run_spec : {M : Type 1} → statement M
 run_spec =
