@@ -1,4 +1,6 @@
 // Document 01, "Readings", the gate's half: the smoothed dB of a channel, and its early rise alone.
+#![tactic(auto)]
+
 ghost use Rattle.std.specs.Prelude.{◌≡◌, not, ◌&&◌, ◌<◌, eqb, get_or, pos};
 ghost use Rattle.std.specs.Float.{binary64};
 ghost use Rattle.std.specs.Float.Ieee.{of_int};

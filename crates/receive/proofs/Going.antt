@@ -13,7 +13,7 @@ use Rattle.laws.proofs.Lists.{length_part, length-splice}
 use Rattle.model.specs.Layout.{decimation_hops}
 use Rattle.model.specs.Demand3.{Stores, left_by}
 use Rattle.run_model.specs.Runs.{Run, RunHop, hops_from, hops_of, calls_of, rises_by, drops_by, garbled_run, run_refusal, alone, run_leaves, received}
-use Rattle.run_model.specs.Hops.{Fit, Long, garbled_hop, HopFits, hop_left, hop_rises, hop_drops, Stepped}
+use Rattle.run_model.specs.Hops.{Fit, Long, garbled_hop, HopFits, Stepped}
 use Rattle.run_model.proofs.Taken.{fit_of}
 use Rattle.run_model.proofs.Beside.{rises-more, drops-more}
 use Rattle.run_model.proofs.Runs.{hop-fits, hop-phase, first-clear, rest-clear}

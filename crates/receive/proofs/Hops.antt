@@ -15,7 +15,7 @@ use Rattle.model.specs.GateCalls.{gate_update_call, gate_hold_call}
 use Rattle.model.specs.GoodBank.{Ready}
 use Rattle.model.proofs.GoodBanks.{ready}
 use Rattle.model.proofs.GoodGates.{gate-ready}
-use Rattle.model.specs.Demand3.{Stores, gate, hold, does, step, left, rises_done, rises_of}
+use Rattle.model.specs.Demand3.{Stores, does, step, left, rises_done, rises_of}
 use Rattle.roles.specs.Rights.{as_role}
 use Rattle.bank_stages.specs.Steps.{Holds}
 use Rattle.bank_stages.proofs.Stages.{accepted}

@@ -1,4 +1,6 @@
 // A run of hops: the stores are tested once, and then each hop takes the steps of the single calls.
+#![tactic(auto)]
+
 ghost use Rattle.std.specs.Prelude.{◌≡◌};
 ghost use Rattle.run_model.specs.Runs.{alone, run_refusal, received};
 ghost use Rattle.run_model.specs.Hops.{HopFits, Stepped};

@@ -8,16 +8,16 @@ use Rattle.receive.proofs.receive.Statement.{statement}
 use Rattle.receive.proofs.receive.Tie as tie
 
 abbrev start : tie.After-run_refusal-refusal → tie.Start
-start q = q.before.before.before.before.before.before.before.before.before.before.before.before.before.before
+start q = q.before.before.before.before.before.before.before.before.before.before
 
 abbrev lent : tie.Start → Run
-lent s = record { hold = s.args.hold.now; db = s.args.power_db.now; power = s.args.power.now; rise = s.args.rise_1.now; drop = s.args.drop_1.now }
+lent s = record { hold = s.args.hold.now; db = s.args.power_db.now; power = s.args.power.now; rise = s.args.rise.now; drop = s.args.drop.now }
 
 -- the test is that of the run
 is : (q : tie.After-run_refusal-refusal)
-    → let s = (start q).args in q.run_refusal-refusal.result ≡ run_refusal s.bank-1.now s.bank_f-1.now s.gate-1.now s.gate_f-1.now (lent (start q))
+    → let s = (start q).args in q.run_refusal-refusal.result ≡ run_refusal s.bank.now s.bank_f.now s.gate.now s.gate_f.now (lent (start q))
 is q = let s = (start q).args in
-    q.run_refusal-refusal.ensures ∙ refusal-by s.bank-1.now s.bank_f-1.now s.gate-1.now s.gate_f-1.now (lent (start q))
+    q.run_refusal-refusal.ensures ∙ refusal-by s.bank.now s.bank_f.now s.gate.now s.gate_f.now (lent (start q))
 
 run-refusal-requires : tie.Need-run_refusal-refusal-requires
 run-refusal-requires c κs = search rules
@@ -37,7 +37,7 @@ same-length-4 c = search rules
 returns : tie.Need-returns-then-refusal-ne0
 returns c = let q = c.before in
     let s = (start q).args in
-    refused s.bank-1.now s.bank_f-1.now s.gate-1.now s.gate_f-1.now (lent (start q)) q.run_refusal-refusal.result (is q) c.if-refusal-ne0.true
+    refused s.bank.now s.bank_f.now s.gate.now s.gate_f.now (lent (start q)) q.run_refusal-refusal.result (is q) c.if-refusal-ne0.true
 
 run-requires : tie.Need-run-requires
 run-requires c κs = let e = c.before.before.before.before.before.before in

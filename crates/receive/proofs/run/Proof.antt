@@ -2,10 +2,10 @@
 use mathlib.Core.Path.{◌≡◌, refl, sym, ap, ◌∙◌}
 use Prim.Native.Nat.{ℕ, ◌+◌, ◌-◌, ◌*◌, ◌<◌, ◌≤◌}
 use native.Mathlib.Omega.{arith}
-use lib.ListN.{length, get_or}
+use lib.ListN.{length}
 use Rattle.laws.proofs.Lists.{width}
-use Rattle.run_model.specs.Runs.{Run, RunHop, received, alone}
-use Rattle.receive.proofs.Going.{Going, Longs, longs, gate-thirty, begins, hop_at, within, hop-taken-by, goes-on-by, ends}
+use Rattle.run_model.specs.Runs.{Run, received, alone}
+use Rattle.receive.proofs.Going.{Going, Longs, longs, gate-thirty, begins, within, hop-taken-by, goes-on-by, ends}
 use borrow.Author.Rules.{rules}
 use Rattle.receive.proofs.run.Statement.{statement}
 use Rattle.receive.proofs.run.Tie as tie
@@ -24,11 +24,11 @@ abbrev start : tie.At-loop-i invariant-loop decreases-loop → tie.Start invaria
 start l = l.before.before.before.before.before.before.before.before.before.before.before.before
 
 abbrev lent : tie.Start invariant-loop decreases-loop → Run
-lent s = record { hold = s.args.hold.now; db = s.args.power_db.now; power = s.args.power.now; rise = s.args.rise_1.now; drop = s.args.drop_1.now }
+lent s = record { hold = s.args.hold.now; db = s.args.power_db.now; power = s.args.power.now; rise = s.args.rise.now; drop = s.args.drop.now }
 
 lengths : (l : tie.At-loop-i invariant-loop decreases-loop) → Longs l.before.wide-n.result (lent (start l))
 lengths l = let s = start l in
-    longs l.before.wide-n.result s.args.bank_1.now s.args.bank_f_1.now s.args.gate_1.now s.args.gate_f_1.now (lent s) l.before.wide-n.ensures s.requires
+    longs l.before.wide-n.result s.args.bank.now s.args.bank_f.now s.args.gate.now s.args.gate_f.now (lent s) l.before.wide-n.ensures s.requires
 
 more : (c : tie.In-loop-i invariant-loop decreases-loop) → c.before.loop-i.i < length (start c.before).args.hold.now
 more c = omega arith
@@ -42,18 +42,18 @@ fits : (c : tie.In-loop-i invariant-loop decreases-loop) → (len : ℕ) → len
     → c.before.loop-i.at + c.before.before.wide-n.result ≤ len
 fits c = let l = c.before in
     let s = start l in
-    within l.before.wide-n.result _ (lent s) l.loop-i.i l.loop-i.at l.loop-i.bank-1 l.loop-i.bank_f-1 l.loop-i.gate-1 l.loop-i.gate_f-1 l.loop-i.rise-1 l.loop-i.drop-1 (lengths l) l.loop-i.invariant.0 (more c)
+    within l.before.wide-n.result _ (lent s) l.loop-i.i l.loop-i.at l.loop-i.bank l.loop-i.bank_f l.loop-i.gate l.loop-i.gate_f l.loop-i.rise l.loop-i.drop (lengths l) l.loop-i.invariant.0 (more c)
 
 slice-read-wide : tie.Need-bounds-gate-0 invariant-loop decreases-loop
 slice-read-wide c = let s = c.before.before.before.before.before.before.before.before.before.before in
-    omega (arith, gate-thirty s.args.bank_1.now s.args.bank_f_1.now s.args.gate_1.now s.args.gate_f_1.now (lent s) s.requires)
+    omega (arith, gate-thirty s.args.bank.now s.args.bank_f.now s.args.gate.now s.args.gate_f.now (lent s) s.requires)
 
 wide-requires : tie.Need-wide-n-requires invariant-loop decreases-loop
 wide-requires c κs = search rules
 
 loop-holds : tie.Need-loop-i-init invariant-loop decreases-loop
 loop-holds c = let s = c.before.before.before.before.before.before.before.before.before.before.before in
-    (begins c.wide-n.result s.args.bank_1.now s.args.bank_f_1.now s.args.gate_1.now s.args.gate_f_1.now (lent s) c.wide-n.ensures s.requires, refl, refl, refl, refl, refl)
+    (begins c.wide-n.result s.args.bank.now s.args.bank_f.now s.args.gate.now s.args.gate_f.now (lent s) c.wide-n.ensures s.requires, refl, refl, refl, refl, refl)
 
 add-e : tie.Need-overflow_add-e invariant-loop decreases-loop
 add-e c = omega (arith, fits c _ (lengths c.before).db)
@@ -114,7 +114,7 @@ part-take-hop-end-4 c = let c' = c.before.before.before.before.before.before.bef
 
 take-hop-requires : tie.Need-take_hop-requires invariant-loop decreases-loop
 take-hop-requires c κs = let l = c.before.before.before.before.before.before.before.before.before.before in
-    hop-taken-by l.before.wide-n.result _ (lent (start l)) l.loop-i.i l.loop-i.at l.loop-i.bank-1 l.loop-i.bank_f-1 l.loop-i.gate-1 l.loop-i.gate_f-1 l.loop-i.rise-1 l.loop-i.drop-1 (lengths l) l.loop-i.invariant.0 (more c.before.before.before.before.before.before.before.before.before) _ (width l.loop-i.at l.before.wide-n.result) l.loop-i.marks l.loop-i.invariant.5 _ (width l.loop-i.marks l.before.wide-n.result)
+    hop-taken-by l.before.wide-n.result _ (lent (start l)) l.loop-i.i l.loop-i.at l.loop-i.bank l.loop-i.bank_f l.loop-i.gate l.loop-i.gate_f l.loop-i.rise l.loop-i.drop (lengths l) l.loop-i.invariant.0 (more c.before.before.before.before.before.before.before.before.before) _ (width l.loop-i.at l.before.wide-n.result) l.loop-i.marks l.loop-i.invariant.5 _ (width l.loop-i.marks l.before.wide-n.result)
 
 add-i : tie.Need-overflow_add-i invariant-loop decreases-loop
 add-i c = omega (arith, counted c.before.before.before.before.before.before.before.before.before.before.before.before.before.before.before.before.before.before.before.before.before.before)
@@ -125,11 +125,11 @@ loop-less c = omega (arith, more c.before.before.before.before.before.before.bef
 loop-again : tie.Need-loop-i-preserved invariant-loop decreases-loop
 loop-again c = let t = c.before.before.before.before.before.before.before.before.before.before.before.before in
     let l = t.before.before.before.before.before.before.before.before.before.before.before in (
-      goes-on-by l.before.wide-n.result _ (lent (start l)) l.loop-i.i l.loop-i.at l.loop-i.bank-1 l.loop-i.bank_f-1 l.loop-i.gate-1 l.loop-i.gate_f-1 l.loop-i.rise-1 l.loop-i.drop-1 (lengths l) l.loop-i.invariant.0 (more t.before.before.before.before.before.before.before.before.before.before) _ (width l.loop-i.at l.before.wide-n.result) l.loop-i.marks l.loop-i.invariant.5 _ (width l.loop-i.marks l.before.wide-n.result) _ _ _ _ _ _ t.take_hop.ensures t.take_hop.auto.1.1.1.1.1.1.1.0 t.take_hop.auto.1.1.1.1.1.1.1.1.0,
-      t.take_hop.auto.0 ∙ l.loop-i.invariant.1,
-      t.take_hop.auto.1.0 ∙ l.loop-i.invariant.2,
-      t.take_hop.auto.1.1.0 ∙ l.loop-i.invariant.3,
-      t.take_hop.auto.1.1.1.0 ∙ l.loop-i.invariant.4,
+      goes-on-by l.before.wide-n.result _ (lent (start l)) l.loop-i.i l.loop-i.at l.loop-i.bank l.loop-i.bank_f l.loop-i.gate l.loop-i.gate_f l.loop-i.rise l.loop-i.drop (lengths l) l.loop-i.invariant.0 (more t.before.before.before.before.before.before.before.before.before.before) _ (width l.loop-i.at l.before.wide-n.result) l.loop-i.marks l.loop-i.invariant.5 _ (width l.loop-i.marks l.before.wide-n.result) _ _ _ _ _ _ t.take_hop.ensures t.take_hop.auto.rise t.take_hop.auto.drop,
+      t.take_hop.auto.bank ∙ l.loop-i.invariant.1,
+      t.take_hop.auto.bank_f ∙ l.loop-i.invariant.2,
+      t.take_hop.auto.gate ∙ l.loop-i.invariant.3,
+      t.take_hop.auto.gate_f ∙ l.loop-i.invariant.4,
       ap (λ (x : ℕ). x + l.before.wide-n.result) l.loop-i.invariant.5,
     )
 
@@ -146,17 +146,17 @@ same-length-4 : tie.Need-shape_of-gate_f invariant-loop decreases-loop
 same-length-4 c = c.before.loop-i.invariant.4
 
 same-length-5 : tie.Need-shape_of-rise invariant-loop decreases-loop
-same-length-5 c = c.before.loop-i.invariant.0.rises.long ∙ sym (lengths c.before).rise-1
+same-length-5 c = c.before.loop-i.invariant.0.rises.long ∙ sym (lengths c.before).rise
 
 same-length-6 : tie.Need-shape_of-drop invariant-loop decreases-loop
-same-length-6 c = c.before.loop-i.invariant.0.drops.long ∙ sym (lengths c.before).drop-1
+same-length-6 c = c.before.loop-i.invariant.0.drops.long ∙ sym (lengths c.before).drop
 
 returns : tie.Need-returns invariant-loop decreases-loop
 unfolding received
 returns c = let l = c.before in
     let s = start l in
-    ends l.before.wide-n.result (alone s.args.bank_1.now s.args.bank_f_1.now s.args.gate_1.now s.args.gate_f_1.now) (lent s) l.loop-i.i l.loop-i.at l.loop-i.bank-1 l.loop-i.bank_f-1
-    l.loop-i.gate-1 l.loop-i.gate_f-1 l.loop-i.rise-1 l.loop-i.drop-1 l.loop-i.invariant.0 (omega (arith, l.loop-i.invariant.0.few)) l.before.wide-n.ensures _ s.requires
+    ends l.before.wide-n.result (alone s.args.bank.now s.args.bank_f.now s.args.gate.now s.args.gate_f.now) (lent s) l.loop-i.i l.loop-i.at l.loop-i.bank l.loop-i.bank_f
+    l.loop-i.gate l.loop-i.gate_f l.loop-i.rise l.loop-i.drop l.loop-i.invariant.0 (omega (arith, l.loop-i.invariant.0.few)) l.before.wide-n.ensures _ s.requires
 
 pub run_spec : {M : Type 1} → statement M
 run_spec =
