@@ -1,3 +1,4 @@
+-- `watch_decibels::work_out` meets its contract: the first k entries are written. Assumes nothing.
 use mathlib.Core.Path.{◌≡◌, ap, ◌∙◌}
 use mathlib.Core.List.{List}
 use Prim.Native.Nat.{ℕ, ◌<◌, ◌≤◌}
@@ -14,8 +15,6 @@ use Rattle.decibels.proofs.Hops.{in-front-at}
 use Rattle.watch_decibels.specs.Worked.{worked_out}
 use Rattle.watch_decibels.proofs.work_out.Invariants.{entry}
 use Rattle.watch_decibels.proofs.work_out.Goals as goal
-
--- `watch_decibels::work_out` meets its contract: the first k entries are written. Assumes nothing.
 
 -- the three ways
 module _ (db power : List Float) where
