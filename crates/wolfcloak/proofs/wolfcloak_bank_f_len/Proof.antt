@@ -3,11 +3,11 @@ use borrow.Author.Rules.{rules}
 use Rattle.wolfcloak.proofs.wolfcloak_bank_f_len.Statement.{statement}
 use Rattle.wolfcloak.proofs.wolfcloak_bank_f_len.Tie as tie
 
-bank-f-len-requires : tie.Need-bank-f-len-requires
+bank-f-len-requires : tie.Need-bank_f_len-requires
 bank-f-len-requires c κs = search rules
 
 returns : tie.Need-returns
-returns c = c.bank-f-len.ensures
+returns c = c.bank_f_len.ensures
 
-pub wolfcloak-bank-f-len-spec : {M : Type 1} → statement M
-wolfcloak-bank-f-len-spec = tie.close (tie.spec bank-f-len-requires returns)
+pub wolfcloak_bank_f_len_spec : {M : Type 1} → statement M
+wolfcloak_bank_f_len_spec = tie.close (tie.spec bank-f-len-requires returns)

@@ -10,24 +10,24 @@ may-requires : tie.Need-may-requires
 may-requires c κs = search rules
 
 -- the role lacks the right
-returns : tie.Need-returns
-returns c = stopped bank_update _ _ _ _ c.before.may.ensures c.if1.true
+returns : tie.Need-returns-then-not-may
+returns c = stopped bank_update _ _ _ _ c.before.may.ensures c.if-not-may.true
 
-bank-update-requires : tie.Need-bank-update-requires
+bank-update-requires : tie.Need-bank_update-requires
 bank-update-requires c κs = search rules
 
-same_length : tie.Need-same-length
+same_length : tie.Need-shape_of-bank
 same_length c = search rules
 
-same-length-2 : tie.Need-same-length-2
+same-length-2 : tie.Need-shape_of-bank_f
 same-length-2 c = search rules
 
-returns-2 : tie.Need-returns-2
+returns-2 : tie.Need-returns
 returns-2 c =
     let q = c.before.before.before.before in
     let t = q.before.before.before in
     q.bank_update.ensures
-    ∙ granted bank_update _ _ _ _ t.before.may.ensures t.if1.false
+    ∙ granted bank_update _ _ _ _ t.before.may.ensures t.if-not-may.false
 
-pub wolfcloak-bank-update-spec : {M : Type 1} → statement M
-wolfcloak-bank-update-spec = tie.close (tie.spec may-requires returns bank-update-requires same_length same-length-2 returns-2)
+pub wolfcloak_bank_update_spec : {M : Type 1} → statement M
+wolfcloak_bank_update_spec = tie.close (tie.spec may-requires returns bank-update-requires same_length same-length-2 returns-2)

@@ -11,23 +11,23 @@ may-requires : tie.Need-may-requires
 may-requires c κs = search rules
 
 -- the role lacks the right
-returns : tie.Need-returns
-returns c = stopped effective_floor_db _ _ _ _ c.before.may.ensures c.if1.true
+returns : tie.Need-returns-then-not-may
+returns c = stopped effective_floor_db _ _ _ _ c.before.may.ensures c.if-not-may.true
 
-effective-floor-db-requires : tie.Need-effective-floor-db-requires
+effective-floor-db-requires : tie.Need-effective_floor_db-requires
 effective-floor-db-requires c κs = search rules
 
-value-answer-requires : tie.Need-value-answer-requires
+value-answer-requires : tie.Need-value_answer-requires
 value-answer-requires c κs = search rules
 
-returns-2 : tie.Need-returns-2
+returns-2 : tie.Need-returns
 returns-2 c =
     let q = c.before.before in
     let t = q.before in
     let s = t.before.before.before.before in
-    c.value-answer.ensures ∙ ap (answered s.args.value.now) q.effective_floor_db.ensures
-    ∙ granted effective_floor_db _ _ _ _ t.before.may.ensures t.if1.false
+    c.value_answer.ensures ∙ ap (answered s.args.value.now) q.effective_floor_db.ensures
+    ∙ granted effective_floor_db _ _ _ _ t.before.may.ensures t.if-not-may.false
 
-pub wolfcloak-effective-floor-db-spec : {M : Type 1} → statement M
-wolfcloak-effective-floor-db-spec =
+pub wolfcloak_effective_floor_db_spec : {M : Type 1} → statement M
+wolfcloak_effective_floor_db_spec =
     tie.close (tie.spec may-requires returns effective-floor-db-requires value-answer-requires returns-2)

@@ -11,22 +11,22 @@ may-requires : tie.Need-may-requires
 may-requires c κs = search rules
 
 -- the role lacks the right
-returns : tie.Need-returns
-returns c = stopped floors _ _ _ _ c.before.may.ensures c.if1.true
+returns : tie.Need-returns-then-not-may
+returns c = stopped floors _ _ _ _ c.before.may.ensures c.if-not-may.true
 
 floors-requires : tie.Need-floors-requires
 floors-requires c κs = search rules
 
-floors-answer-requires : tie.Need-floors-answer-requires
+floors-answer-requires : tie.Need-floors_answer-requires
 floors-answer-requires c κs = search rules
 
-returns-2 : tie.Need-returns-2
+returns-2 : tie.Need-returns
 returns-2 c =
     let q = c.before.before.before.before in
     let t = q.before in
     let s = t.before.before.before.before in
-    c.floors-answer.ensures ∙ ap (floors_answered s.args.effective.now s.args.rise.now s.args.raw.now) q.floors.ensures
-    ∙ granted floors _ _ _ _ t.before.may.ensures t.if1.false
+    c.floors_answer.ensures ∙ ap (floors_answered s.args.effective.now s.args.rise.now s.args.raw.now) q.floors.ensures
+    ∙ granted floors _ _ _ _ t.before.may.ensures t.if-not-may.false
 
-pub wolfcloak-floors-spec : {M : Type 1} → statement M
-wolfcloak-floors-spec = tie.close (tie.spec may-requires returns floors-requires floors-answer-requires returns-2)
+pub wolfcloak_floors_spec : {M : Type 1} → statement M
+wolfcloak_floors_spec = tie.close (tie.spec may-requires returns floors-requires floors-answer-requires returns-2)

@@ -10,17 +10,17 @@ may-requires : tie.Need-may-requires
 may-requires c κs = search rules
 
 -- the role lacks the right
-returns : tie.Need-returns
-returns c = stopped ring _ _ _ _ c.before.may.ensures c.if1.true
+returns : tie.Need-returns-then-not-may
+returns c = stopped ring _ _ _ _ c.before.may.ensures c.if-not-may.true
 
-ring-answer-requires : tie.Need-ring-answer-requires
+ring-answer-requires : tie.Need-ring_answer-requires
 ring-answer-requires c κs = search rules
 
-returns-2 : tie.Need-returns-2
+returns-2 : tie.Need-returns
 returns-2 c =
     let t = c.before.before.before in
-    c.ring-answer.ensures
-    ∙ granted ring _ _ _ _ t.before.may.ensures t.if1.false
+    c.ring_answer.ensures
+    ∙ granted ring _ _ _ _ t.before.may.ensures t.if-not-may.false
 
-pub wolfcloak-ring-spec : {M : Type 1} → statement M
-wolfcloak-ring-spec = tie.close (tie.spec may-requires returns ring-answer-requires returns-2)
+pub wolfcloak_ring_spec : {M : Type 1} → statement M
+wolfcloak_ring_spec = tie.close (tie.spec may-requires returns ring-answer-requires returns-2)

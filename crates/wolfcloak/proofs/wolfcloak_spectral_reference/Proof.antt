@@ -11,23 +11,23 @@ may-requires : tie.Need-may-requires
 may-requires c κs = search rules
 
 -- the role lacks the right
-returns : tie.Need-returns
-returns c = stopped spectral_reference _ _ _ _ c.before.may.ensures c.if1.true
+returns : tie.Need-returns-then-not-may
+returns c = stopped spectral_reference _ _ _ _ c.before.may.ensures c.if-not-may.true
 
-spectral-reference-requires : tie.Need-spectral-reference-requires
+spectral-reference-requires : tie.Need-spectral_reference-requires
 spectral-reference-requires c κs = search rules
 
-value-answer-requires : tie.Need-value-answer-requires
+value-answer-requires : tie.Need-value_answer-requires
 value-answer-requires c κs = search rules
 
-returns-2 : tie.Need-returns-2
+returns-2 : tie.Need-returns
 returns-2 c =
     let q = c.before.before in
     let t = q.before in
     let s = t.before.before.before.before in
-    c.value-answer.ensures ∙ ap (answered s.args.value.now) q.spectral_reference.ensures
-    ∙ granted spectral_reference _ _ _ _ t.before.may.ensures t.if1.false
+    c.value_answer.ensures ∙ ap (answered s.args.value.now) q.spectral_reference.ensures
+    ∙ granted spectral_reference _ _ _ _ t.before.may.ensures t.if-not-may.false
 
-pub wolfcloak-spectral-reference-spec : {M : Type 1} → statement M
-wolfcloak-spectral-reference-spec =
+pub wolfcloak_spectral_reference_spec : {M : Type 1} → statement M
+wolfcloak_spectral_reference_spec =
     tie.close (tie.spec may-requires returns spectral-reference-requires value-answer-requires returns-2)

@@ -11,26 +11,26 @@ may-requires : tie.Need-may-requires
 may-requires c κs = search rules
 
 -- the role lacks the right
-returns : tie.Need-returns
-returns c = stopped log_combine _ _ _ _ c.before.may.ensures c.if1.true
+returns : tie.Need-returns-then-not-may
+returns c = stopped log_combine _ _ _ _ c.before.may.ensures c.if-not-may.true
 
-log-combine-requires : tie.Need-log-combine-requires
+log-combine-requires : tie.Need-log_combine-requires
 log-combine-requires c κs = search rules
 
-length-answer-requires : tie.Need-length-answer-requires
+length-answer-requires : tie.Need-length_answer-requires
 length-answer-requires c κs = search rules
 
-same_length : tie.Need-same-length
+same_length : tie.Need-shape_of-log
 same_length c = search rules
 
-returns-2 : tie.Need-returns-2
+returns-2 : tie.Need-returns
 returns-2 c =
     let q = c.before.before.before.before in
     let t = q.before.before in
     let s = t.before.before.before.before.before in
-    (λ i. ((c.length-answer.ensures i).0, (c.length-answer.ensures i).1, q.log_combine.new.1.1.0)) ∙ ap (write_answered s.args.len.now) q.log_combine.ensures
-    ∙ granted log_combine _ _ _ _ t.before.may.ensures t.if1.false
+    (λ i. ((c.length_answer.ensures i).0, (c.length_answer.ensures i).1, q.log_combine.new.1.1.0)) ∙ ap (write_answered s.args.len.now) q.log_combine.ensures
+    ∙ granted log_combine _ _ _ _ t.before.may.ensures t.if-not-may.false
 
-pub wolfcloak-log-combine-spec : {M : Type 1} → statement M
-wolfcloak-log-combine-spec =
+pub wolfcloak_log_combine_spec : {M : Type 1} → statement M
+wolfcloak_log_combine_spec =
     tie.close (tie.spec may-requires returns log-combine-requires length-answer-requires same_length returns-2)

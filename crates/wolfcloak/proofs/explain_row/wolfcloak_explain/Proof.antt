@@ -11,22 +11,22 @@ may-requires : tie.Need-may-requires
 may-requires c κs = search rules
 
 -- the role lacks the right
-returns : tie.Need-returns
-returns c = stopped explain _ _ _ _ c.before.may.ensures c.if1.true
+returns : tie.Need-returns-then-not-may
+returns c = stopped explain _ _ _ _ c.before.may.ensures c.if-not-may.true
 
 explain-requires : tie.Need-explain-requires
 explain-requires c κs = search rules
 
-explained-answer-requires : tie.Need-explained-answer-requires
+explained-answer-requires : tie.Need-explained_answer-requires
 explained-answer-requires c κs = search rules
 
-returns-2 : tie.Need-returns-2
+returns-2 : tie.Need-returns
 returns-2 c =
     let q = c.before.before.before.before.before in
     let t = q.before in
     let s = t.before.before.before.before in
-    c.explained-answer.ensures ∙ ap (explained_answered s.args.effective-origin.now s.args.effective.now s.args.rise-origin.now s.args.rise.now) q.explain.ensures
-    ∙ granted explain _ _ _ _ t.before.may.ensures t.if1.false
+    c.explained_answer.ensures ∙ ap (explained_answered s.args.effective_origin.now s.args.effective.now s.args.rise_origin.now s.args.rise.now) q.explain.ensures
+    ∙ granted explain _ _ _ _ t.before.may.ensures t.if-not-may.false
 
-pub wolfcloak-explain-spec : {M : Type 1} → statement M
-wolfcloak-explain-spec = tie.close (tie.spec may-requires returns explain-requires explained-answer-requires returns-2)
+pub wolfcloak_explain_spec : {M : Type 1} → statement M
+wolfcloak_explain_spec = tie.close (tie.spec may-requires returns explain-requires explained-answer-requires returns-2)

@@ -11,22 +11,22 @@ may-requires : tie.Need-may-requires
 may-requires c κs = search rules
 
 -- the role lacks the right
-returns : tie.Need-returns
-returns c = stopped ema_rise _ _ _ _ c.before.may.ensures c.if1.true
+returns : tie.Need-returns-then-not-may
+returns c = stopped ema_rise _ _ _ _ c.before.may.ensures c.if-not-may.true
 
-ema-rise-requires : tie.Need-ema-rise-requires
+ema-rise-requires : tie.Need-ema_rise-requires
 ema-rise-requires c κs = search rules
 
-value-answer-requires : tie.Need-value-answer-requires
+value-answer-requires : tie.Need-value_answer-requires
 value-answer-requires c κs = search rules
 
-returns-2 : tie.Need-returns-2
+returns-2 : tie.Need-returns
 returns-2 c =
     let q = c.before.before in
     let t = q.before in
     let s = t.before.before.before.before.before.before in
-    c.value-answer.ensures ∙ ap (answered s.args.value.now) q.ema_rise.ensures
-    ∙ granted ema_rise _ _ _ _ t.before.may.ensures t.if1.false
+    c.value_answer.ensures ∙ ap (answered s.args.value.now) q.ema_rise.ensures
+    ∙ granted ema_rise _ _ _ _ t.before.may.ensures t.if-not-may.false
 
-pub wolfcloak-ema-rise-spec : {M : Type 1} → statement M
-wolfcloak-ema-rise-spec = tie.close (tie.spec may-requires returns ema-rise-requires value-answer-requires returns-2)
+pub wolfcloak_ema_rise_spec : {M : Type 1} → statement M
+wolfcloak_ema_rise_spec = tie.close (tie.spec may-requires returns ema-rise-requires value-answer-requires returns-2)

@@ -10,27 +10,27 @@ may-requires : tie.Need-may-requires
 may-requires c κs = search rules
 
 -- the role lacks the right
-returns : tie.Need-returns
-returns c = stopped gate_hold _ _ _ _ c.before.may.ensures c.if1.true
+returns : tie.Need-returns-then-not-may
+returns c = stopped gate_hold _ _ _ _ c.before.may.ensures c.if-not-may.true
 
-gate-hold-requires : tie.Need-gate-hold-requires
+gate-hold-requires : tie.Need-gate_hold-requires
 gate-hold-requires c κs = search rules
 
-same_length : tie.Need-same-length
+same_length : tie.Need-shape_of-gate_f
 same_length c = search rules
 
-same-length-2 : tie.Need-same-length-2
+same-length-2 : tie.Need-shape_of-rise
 same-length-2 c = search rules
 
-same-length-3 : tie.Need-same-length-3
+same-length-3 : tie.Need-shape_of-drop
 same-length-3 c = search rules
 
-returns-2 : tie.Need-returns-2
+returns-2 : tie.Need-returns
 returns-2 c =
     let q = c.before.before.before.before.before.before in
     let t = q.before.before.before.before in
     q.gate_hold.ensures
-    ∙ granted gate_hold _ _ _ _ t.before.may.ensures t.if1.false
+    ∙ granted gate_hold _ _ _ _ t.before.may.ensures t.if-not-may.false
 
-pub wolfcloak-gate-hold-spec : {M : Type 1} → statement M
-wolfcloak-gate-hold-spec = tie.close (tie.spec may-requires returns gate-hold-requires same_length same-length-2 same-length-3 returns-2)
+pub wolfcloak_gate_hold_spec : {M : Type 1} → statement M
+wolfcloak_gate_hold_spec = tie.close (tie.spec may-requires returns gate-hold-requires same_length same-length-2 same-length-3 returns-2)

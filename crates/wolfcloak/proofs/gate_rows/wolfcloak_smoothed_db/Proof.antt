@@ -11,22 +11,22 @@ may-requires : tie.Need-may-requires
 may-requires c κs = search rules
 
 -- the role lacks the right
-returns : tie.Need-returns
-returns c = stopped smoothed_db _ _ _ _ c.before.may.ensures c.if1.true
+returns : tie.Need-returns-then-not-may
+returns c = stopped smoothed_db _ _ _ _ c.before.may.ensures c.if-not-may.true
 
-smoothed-db-requires : tie.Need-smoothed-db-requires
+smoothed-db-requires : tie.Need-smoothed_db-requires
 smoothed-db-requires c κs = search rules
 
-value-answer-requires : tie.Need-value-answer-requires
+value-answer-requires : tie.Need-value_answer-requires
 value-answer-requires c κs = search rules
 
-returns-2 : tie.Need-returns-2
+returns-2 : tie.Need-returns
 returns-2 c =
     let q = c.before.before in
     let t = q.before in
     let s = t.before.before.before.before in
-    c.value-answer.ensures ∙ ap (answered s.args.value.now) q.smoothed_db.ensures
-    ∙ granted smoothed_db _ _ _ _ t.before.may.ensures t.if1.false
+    c.value_answer.ensures ∙ ap (answered s.args.value.now) q.smoothed_db.ensures
+    ∙ granted smoothed_db _ _ _ _ t.before.may.ensures t.if-not-may.false
 
-pub wolfcloak-smoothed-db-spec : {M : Type 1} → statement M
-wolfcloak-smoothed-db-spec = tie.close (tie.spec may-requires returns smoothed-db-requires value-answer-requires returns-2)
+pub wolfcloak_smoothed_db_spec : {M : Type 1} → statement M
+wolfcloak_smoothed_db_spec = tie.close (tie.spec may-requires returns smoothed-db-requires value-answer-requires returns-2)

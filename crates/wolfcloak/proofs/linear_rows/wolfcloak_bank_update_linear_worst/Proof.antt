@@ -10,30 +10,30 @@ may-requires : tie.Need-may-requires
 may-requires c κs = search rules
 
 -- the role lacks the right
-returns : tie.Need-returns
-returns c = stopped bank_update_linear_worst _ _ _ _ c.before.may.ensures c.if1.true
+returns : tie.Need-returns-then-not-may
+returns c = stopped bank_update_linear_worst _ _ _ _ c.before.may.ensures c.if-not-may.true
 
-bank-update-linear-worst-requires : tie.Need-bank-update-linear-worst-requires
+bank-update-linear-worst-requires : tie.Need-bank_update_linear_worst-requires
 bank-update-linear-worst-requires c κs = search rules
 
-same_length : tie.Need-same-length
+same_length : tie.Need-shape_of-bank
 same_length c = search rules
 
-same-length-2 : tie.Need-same-length-2
+same-length-2 : tie.Need-shape_of-bank_f
 same-length-2 c = search rules
 
-same-length-3 : tie.Need-same-length-3
+same-length-3 : tie.Need-shape_of-worst
 same-length-3 c = search rules
 
-same-length-4 : tie.Need-same-length-4
+same-length-4 : tie.Need-shape_of-worst_f
 same-length-4 c = search rules
 
-returns-2 : tie.Need-returns-2
+returns-2 : tie.Need-returns
 returns-2 c =
     let q = c.before.before.before.before.before.before.before.before in
     let t = q.before.before.before.before.before in
     q.bank_update_linear_worst.ensures
-    ∙ granted bank_update_linear_worst _ _ _ _ t.before.may.ensures t.if1.false
+    ∙ granted bank_update_linear_worst _ _ _ _ t.before.may.ensures t.if-not-may.false
 
-pub wolfcloak-bank-update-linear-worst-spec : {M : Type 1} → statement M
-wolfcloak-bank-update-linear-worst-spec = tie.close (tie.spec may-requires returns bank-update-linear-worst-requires same_length same-length-2 same-length-3 same-length-4 returns-2)
+pub wolfcloak_bank_update_linear_worst_spec : {M : Type 1} → statement M
+wolfcloak_bank_update_linear_worst_spec = tie.close (tie.spec may-requires returns bank-update-linear-worst-requires same_length same-length-2 same-length-3 same-length-4 returns-2)

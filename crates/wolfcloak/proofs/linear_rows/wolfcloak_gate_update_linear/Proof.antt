@@ -10,30 +10,30 @@ may-requires : tie.Need-may-requires
 may-requires c κs = search rules
 
 -- the role lacks the right
-returns : tie.Need-returns
-returns c = stopped gate_update_linear _ _ _ _ c.before.may.ensures c.if1.true
+returns : tie.Need-returns-then-not-may
+returns c = stopped gate_update_linear _ _ _ _ c.before.may.ensures c.if-not-may.true
 
-gate-update-linear-requires : tie.Need-gate-update-linear-requires
+gate-update-linear-requires : tie.Need-gate_update_linear-requires
 gate-update-linear-requires c κs = search rules
 
-same_length : tie.Need-same-length
+same_length : tie.Need-shape_of-gate
 same_length c = search rules
 
-same-length-2 : tie.Need-same-length-2
+same-length-2 : tie.Need-shape_of-gate_f
 same-length-2 c = search rules
 
-same-length-3 : tie.Need-same-length-3
+same-length-3 : tie.Need-shape_of-rise
 same-length-3 c = search rules
 
-same-length-4 : tie.Need-same-length-4
+same-length-4 : tie.Need-shape_of-drop
 same-length-4 c = search rules
 
-returns-2 : tie.Need-returns-2
+returns-2 : tie.Need-returns
 returns-2 c =
     let q = c.before.before.before.before.before.before.before.before in
     let t = q.before.before.before.before.before in
     q.gate_update_linear.ensures
-    ∙ granted gate_update_linear _ _ _ _ t.before.may.ensures t.if1.false
+    ∙ granted gate_update_linear _ _ _ _ t.before.may.ensures t.if-not-may.false
 
-pub wolfcloak-gate-update-linear-spec : {M : Type 1} → statement M
-wolfcloak-gate-update-linear-spec = tie.close (tie.spec may-requires returns gate-update-linear-requires same_length same-length-2 same-length-3 same-length-4 returns-2)
+pub wolfcloak_gate_update_linear_spec : {M : Type 1} → statement M
+wolfcloak_gate_update_linear_spec = tie.close (tie.spec may-requires returns gate-update-linear-requires same_length same-length-2 same-length-3 same-length-4 returns-2)

@@ -11,23 +11,23 @@ may-requires : tie.Need-may-requires
 may-requires c κs = search rules
 
 -- the role lacks the right
-returns : tie.Need-returns
-returns c = stopped log_channels _ _ _ _ c.before.may.ensures c.if1.true
+returns : tie.Need-returns-then-not-may
+returns c = stopped log_channels _ _ _ _ c.before.may.ensures c.if-not-may.true
 
-log-channels-requires : tie.Need-log-channels-requires
+log-channels-requires : tie.Need-log_channels-requires
 log-channels-requires c κs = search rules
 
-channels-answer-requires : tie.Need-channels-answer-requires
+channels-answer-requires : tie.Need-channels_answer-requires
 channels-answer-requires c κs = search rules
 
-returns-2 : tie.Need-returns-2
+returns-2 : tie.Need-returns
 returns-2 c =
     let q = c.before.before in
     let t = q.before in
     let s = t.before.before.before in
-    c.channels-answer.ensures ∙ ap (channels_answered s.args.n.now) q.log_channels.ensures
-    ∙ granted log_channels _ _ _ _ t.before.may.ensures t.if1.false
+    c.channels_answer.ensures ∙ ap (channels_answered s.args.n.now) q.log_channels.ensures
+    ∙ granted log_channels _ _ _ _ t.before.may.ensures t.if-not-may.false
 
-pub wolfcloak-log-channels-spec : {M : Type 1} → statement M
-wolfcloak-log-channels-spec =
+pub wolfcloak_log_channels_spec : {M : Type 1} → statement M
+wolfcloak_log_channels_spec =
     tie.close (tie.spec may-requires returns log-channels-requires channels-answer-requires returns-2)

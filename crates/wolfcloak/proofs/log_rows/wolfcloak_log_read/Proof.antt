@@ -11,29 +11,29 @@ may-requires : tie.Need-may-requires
 may-requires c κs = search rules
 
 -- the role lacks the right
-returns : tie.Need-returns
-returns c = stopped log_read _ _ _ _ c.before.may.ensures c.if1.true
+returns : tie.Need-returns-then-not-may
+returns c = stopped log_read _ _ _ _ c.before.may.ensures c.if-not-may.true
 
-log-read-requires : tie.Need-log-read-requires
+log-read-requires : tie.Need-log_read-requires
 log-read-requires c κs = search rules
 
-read-answer-requires : tie.Need-read-answer-requires
+read-answer-requires : tie.Need-read_answer-requires
 read-answer-requires c κs = search rules
 
-same_length : tie.Need-same-length
+same_length : tie.Need-shape_of-db_bits
 same_length c = search rules
 
-same-length-2 : tie.Need-same-length-2
+same-length-2 : tie.Need-shape_of-power_bits
 same-length-2 c = search rules
 
-returns-2 : tie.Need-returns-2
+returns-2 : tie.Need-returns
 returns-2 c =
     let q = c.before.before.before.before.before.before in
     let t = q.before.before.before.before in
     let s = t.before.before.before.before.before in
     (λ i. ((c.read_answer.ensures i).0, (c.read_answer.ensures i).1, q.log_read.new.1.1.0, q.log_read.new.1.1.1.0)) ∙ ap (read_answered s.args.position.now) q.log_read.ensures
-    ∙ granted log_read _ _ _ _ t.before.may.ensures t.if1.false
+    ∙ granted log_read _ _ _ _ t.before.may.ensures t.if-not-may.false
 
-pub wolfcloak-log-read-spec : {M : Type 1} → statement M
-wolfcloak-log-read-spec =
+pub wolfcloak_log_read_spec : {M : Type 1} → statement M
+wolfcloak_log_read_spec =
     tie.close (tie.spec may-requires returns log-read-requires read-answer-requires same_length same-length-2 returns-2)

@@ -10,21 +10,21 @@ may-requires : tie.Need-may-requires
 may-requires c κs = search rules
 
 -- the role lacks the right
-returns : tie.Need-returns
-returns c = stopped map_new _ _ _ _ c.before.may.ensures c.if1.true
+returns : tie.Need-returns-then-not-may
+returns c = stopped map_new _ _ _ _ c.before.may.ensures c.if-not-may.true
 
-map-new-requires : tie.Need-map-new-requires
+map-new-requires : tie.Need-map_new-requires
 map-new-requires c κs = search rules
 
-same_length : tie.Need-same-length
+same_length : tie.Need-shape_of-map
 same_length c = search rules
 
-returns-2 : tie.Need-returns-2
+returns-2 : tie.Need-returns
 returns-2 c =
     let q = c.before.before in
     let t = q.before.before in
     q.map_new.ensures
-    ∙ granted map_new _ _ _ _ t.before.may.ensures t.if1.false
+    ∙ granted map_new _ _ _ _ t.before.may.ensures t.if-not-may.false
 
-pub wolfcloak-map-new-spec : {M : Type 1} → statement M
-wolfcloak-map-new-spec = tie.close (tie.spec may-requires returns map-new-requires same_length returns-2)
+pub wolfcloak_map_new_spec : {M : Type 1} → statement M
+wolfcloak_map_new_spec = tie.close (tie.spec may-requires returns map-new-requires same_length returns-2)

@@ -10,17 +10,17 @@ may-requires : tie.Need-may-requires
 may-requires c κs = search rules
 
 -- the role lacks the right
-returns : tie.Need-returns
-returns c = stopped map_read _ _ _ _ c.before.may.ensures c.if1.true
+returns : tie.Need-returns-then-not-may
+returns c = stopped map_read _ _ _ _ c.before.may.ensures c.if-not-may.true
 
-map-read-requires : tie.Need-map-read-requires
+map-read-requires : tie.Need-map_read-requires
 map-read-requires c κs = search rules
 
-returns-2 : tie.Need-returns-2
+returns-2 : tie.Need-returns
 returns-2 c =
     let t = c.before.before in
     c.map_read.ensures
-    ∙ granted map_read _ _ _ _ t.before.may.ensures t.if1.false
+    ∙ granted map_read _ _ _ _ t.before.may.ensures t.if-not-may.false
 
-pub wolfcloak-map-read-spec : {M : Type 1} → statement M
-wolfcloak-map-read-spec = tie.close (tie.spec may-requires returns map-read-requires returns-2)
+pub wolfcloak_map_read_spec : {M : Type 1} → statement M
+wolfcloak_map_read_spec = tie.close (tie.spec may-requires returns map-read-requires returns-2)

@@ -10,21 +10,21 @@ may-requires : tie.Need-may-requires
 may-requires c κs = search rules
 
 -- the role lacks the right
-returns : tie.Need-returns
-returns c = stopped map_write _ _ _ _ c.before.may.ensures c.if1.true
+returns : tie.Need-returns-then-not-may
+returns c = stopped map_write _ _ _ _ c.before.may.ensures c.if-not-may.true
 
-map-write-requires : tie.Need-map-write-requires
+map-write-requires : tie.Need-map_write-requires
 map-write-requires c κs = search rules
 
-same_length : tie.Need-same-length
+same_length : tie.Need-shape_of-map
 same_length c = search rules
 
-returns-2 : tie.Need-returns-2
+returns-2 : tie.Need-returns
 returns-2 c =
     let q = c.before.before in
     let t = q.before.before in
     q.map_write.ensures
-    ∙ granted map_write _ _ _ _ t.before.may.ensures t.if1.false
+    ∙ granted map_write _ _ _ _ t.before.may.ensures t.if-not-may.false
 
-pub wolfcloak-map-write-spec : {M : Type 1} → statement M
-wolfcloak-map-write-spec = tie.close (tie.spec may-requires returns map-write-requires same_length returns-2)
+pub wolfcloak_map_write_spec : {M : Type 1} → statement M
+wolfcloak_map_write_spec = tie.close (tie.spec may-requires returns map-write-requires same_length returns-2)

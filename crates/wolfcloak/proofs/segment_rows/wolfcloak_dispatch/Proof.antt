@@ -10,17 +10,17 @@ may-requires : tie.Need-may-requires
 may-requires c κs = search rules
 
 -- the role lacks the right
-returns : tie.Need-returns
-returns c = stopped dispatch _ _ _ _ c.before.may.ensures c.if1.true
+returns : tie.Need-returns-then-not-may
+returns c = stopped dispatch _ _ _ _ c.before.may.ensures c.if-not-may.true
 
 tick-requires : tie.Need-tick-requires
 tick-requires c κs = search rules
 
-returns-2 : tie.Need-returns-2
+returns-2 : tie.Need-returns
 returns-2 c =
     let t = c.before.before in
     c.tick.ensures
-    ∙ granted dispatch _ _ _ _ t.before.may.ensures t.if1.false
+    ∙ granted dispatch _ _ _ _ t.before.may.ensures t.if-not-may.false
 
-pub wolfcloak-dispatch-spec : {M : Type 1} → statement M
-wolfcloak-dispatch-spec = tie.close (tie.spec may-requires returns tick-requires returns-2)
+pub wolfcloak_dispatch_spec : {M : Type 1} → statement M
+wolfcloak_dispatch_spec = tie.close (tie.spec may-requires returns tick-requires returns-2)

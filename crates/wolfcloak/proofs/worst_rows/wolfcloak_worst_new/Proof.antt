@@ -10,24 +10,24 @@ may-requires : tie.Need-may-requires
 may-requires c κs = search rules
 
 -- the role lacks the right
-returns : tie.Need-returns
-returns c = stopped worst_new _ _ _ _ c.before.may.ensures c.if1.true
+returns : tie.Need-returns-then-not-may
+returns c = stopped worst_new _ _ _ _ c.before.may.ensures c.if-not-may.true
 
-worst-new-requires : tie.Need-worst-new-requires
+worst-new-requires : tie.Need-worst_new-requires
 worst-new-requires c κs = search rules
 
-same_length : tie.Need-same-length
+same_length : tie.Need-shape_of-worst
 same_length c = search rules
 
-same-length-2 : tie.Need-same-length-2
+same-length-2 : tie.Need-shape_of-worst_f
 same-length-2 c = search rules
 
-returns-2 : tie.Need-returns-2
+returns-2 : tie.Need-returns
 returns-2 c =
     let q = c.before.before.before.before in
     let t = q.before.before.before in
     q.worst_new.ensures
-    ∙ granted worst_new _ _ _ _ t.before.may.ensures t.if1.false
+    ∙ granted worst_new _ _ _ _ t.before.may.ensures t.if-not-may.false
 
-pub wolfcloak-worst-new-spec : {M : Type 1} → statement M
-wolfcloak-worst-new-spec = tie.close (tie.spec may-requires returns worst-new-requires same_length same-length-2 returns-2)
+pub wolfcloak_worst_new_spec : {M : Type 1} → statement M
+wolfcloak_worst_new_spec = tie.close (tie.spec may-requires returns worst-new-requires same_length same-length-2 returns-2)
