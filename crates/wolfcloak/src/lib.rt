@@ -1,4 +1,6 @@
 // The C interface: each call of the bank, in gate_rows each of the gate, in log_rows each of the hop log, and in a file of its own what a request of document 02 adds, in a form that C can pass. An enum, a struct or a returned part is taken apart by `answers` and `log_answers`.
+#![tactic(auto)]
+
 pub mod antenna_rows;
 pub mod explain_row;
 pub mod gate_rows;

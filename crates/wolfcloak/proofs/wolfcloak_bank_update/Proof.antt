@@ -1,5 +1,6 @@
 -- `wolfcloak::wolfcloak_bank_update` meets its contract: it is that of what it calls. Assumes nothing.
-use mathlib.Core.Path.{◌∙◌}
+use mathlib.Core.Bool.{not}
+use mathlib.Core.Path.{ap, ◌∙◌}
 use borrow.Author.Rules.{rules}
 use Rattle.roles.specs.Rights.{bank_update}
 use Rattle.roles.proofs.Roles.{stopped, granted}
@@ -11,7 +12,7 @@ may-requires c κs = search rules
 
 -- the role lacks the right
 returns : tie.Need-returns-then-not-may
-returns c = stopped bank_update _ _ _ _ c.before.may.ensures c.if-not-may.true
+returns c = stopped bank_update _ _ _ _ c.before.may.ensures (ap not c.if-not-may.true)
 
 bank-update-requires : tie.Need-bank_update-requires
 bank-update-requires c κs = search rules
@@ -27,7 +28,7 @@ returns-2 c =
     let q = c.before.before.before.before in
     let t = q.before.before.before in
     q.bank_update.ensures
-    ∙ granted bank_update _ _ _ _ t.before.may.ensures t.if-not-may.false
+    ∙ granted bank_update _ _ _ _ t.before.may.ensures (ap not t.if-not-may.false)
 
 pub wolfcloak_bank_update_spec : {M : Type 1} → statement M
 wolfcloak_bank_update_spec = tie.close (tie.spec may-requires returns bank-update-requires same_length same-length-2 returns-2)

@@ -1,4 +1,5 @@
 -- `wolfcloak::wolfcloak_floors` meets its contract. Assumes nothing.
+use mathlib.Core.Bool.{not}
 use mathlib.Core.Path.{ap, ◌∙◌}
 use Rattle.answers.specs.Answers.{floors_answered}
 use borrow.Author.Rules.{rules}
@@ -12,7 +13,7 @@ may-requires c κs = search rules
 
 -- the role lacks the right
 returns : tie.Need-returns-then-not-may
-returns c = stopped floors _ _ _ _ c.before.may.ensures c.if-not-may.true
+returns c = stopped floors _ _ _ _ c.before.may.ensures (ap not c.if-not-may.true)
 
 floors-requires : tie.Need-floors-requires
 floors-requires c κs = search rules
@@ -26,7 +27,7 @@ returns-2 c =
     let t = q.before in
     let s = t.before.before.before.before in
     c.floors_answer.ensures ∙ ap (floors_answered s.args.effective.now s.args.rise.now s.args.raw.now) q.floors.ensures
-    ∙ granted floors _ _ _ _ t.before.may.ensures t.if-not-may.false
+    ∙ granted floors _ _ _ _ t.before.may.ensures (ap not t.if-not-may.false)
 
 pub wolfcloak_floors_spec : {M : Type 1} → statement M
 wolfcloak_floors_spec = tie.close (tie.spec may-requires returns floors-requires floors-answer-requires returns-2)

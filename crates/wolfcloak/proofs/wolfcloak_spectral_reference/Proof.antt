@@ -1,4 +1,5 @@
 -- `wolfcloak::wolfcloak_spectral_reference` meets its contract. Assumes nothing.
+use mathlib.Core.Bool.{not}
 use mathlib.Core.Path.{ap, ◌∙◌}
 use Rattle.answers.specs.Answers.{answered}
 use borrow.Author.Rules.{rules}
@@ -12,7 +13,7 @@ may-requires c κs = search rules
 
 -- the role lacks the right
 returns : tie.Need-returns-then-not-may
-returns c = stopped spectral_reference _ _ _ _ c.before.may.ensures c.if-not-may.true
+returns c = stopped spectral_reference _ _ _ _ c.before.may.ensures (ap not c.if-not-may.true)
 
 spectral-reference-requires : tie.Need-spectral_reference-requires
 spectral-reference-requires c κs = search rules
@@ -26,7 +27,7 @@ returns-2 c =
     let t = q.before in
     let s = t.before.before.before.before in
     c.value_answer.ensures ∙ ap (answered s.args.value.now) q.spectral_reference.ensures
-    ∙ granted spectral_reference _ _ _ _ t.before.may.ensures t.if-not-may.false
+    ∙ granted spectral_reference _ _ _ _ t.before.may.ensures (ap not t.if-not-may.false)
 
 pub wolfcloak_spectral_reference_spec : {M : Type 1} → statement M
 wolfcloak_spectral_reference_spec =

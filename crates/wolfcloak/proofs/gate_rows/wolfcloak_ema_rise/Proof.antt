@@ -1,4 +1,5 @@
 -- `wolfcloak::gate_rows::wolfcloak_ema_rise` meets its contract. Assumes nothing.
+use mathlib.Core.Bool.{not}
 use mathlib.Core.Path.{ap, ◌∙◌}
 use borrow.Author.Rules.{rules}
 use Rattle.roles.specs.Rights.{ema_rise}
@@ -12,7 +13,7 @@ may-requires c κs = search rules
 
 -- the role lacks the right
 returns : tie.Need-returns-then-not-may
-returns c = stopped ema_rise _ _ _ _ c.before.may.ensures c.if-not-may.true
+returns c = stopped ema_rise _ _ _ _ c.before.may.ensures (ap not c.if-not-may.true)
 
 ema-rise-requires : tie.Need-ema_rise-requires
 ema-rise-requires c κs = search rules
@@ -26,7 +27,7 @@ returns-2 c =
     let t = q.before in
     let s = t.before.before.before.before.before.before in
     c.value_answer.ensures ∙ ap (answered s.args.value.now) q.ema_rise.ensures
-    ∙ granted ema_rise _ _ _ _ t.before.may.ensures t.if-not-may.false
+    ∙ granted ema_rise _ _ _ _ t.before.may.ensures (ap not t.if-not-may.false)
 
 pub wolfcloak_ema_rise_spec : {M : Type 1} → statement M
 wolfcloak_ema_rise_spec = tie.close (tie.spec may-requires returns ema-rise-requires value-answer-requires returns-2)

@@ -1,5 +1,6 @@
 -- `wolfcloak::gate_rows::wolfcloak_gate_new` meets its contract: the call reads the signed levels from their bits. Assumes nothing.
-use mathlib.Core.Path.{◌∙◌}
+use mathlib.Core.Bool.{not}
+use mathlib.Core.Path.{ap, ◌∙◌}
 use lib.IntN.{ℤ}
 use borrow.Author.Rules.{rules}
 use Rattle.roles.specs.Rights.{gate_new}
@@ -14,7 +15,7 @@ may-requires c κs = search rules
 
 -- the role lacks the right
 returns : tie.Need-returns-then-not-may
-returns c = stopped gate_new _ _ _ _ c.before.may.ensures c.if-not-may.true
+returns c = stopped gate_new _ _ _ _ c.before.may.ensures (ap not c.if-not-may.true)
 
 gate-new-requires : tie.Need-gate_new-requires
 gate-new-requires c κs = search rules
@@ -30,8 +31,8 @@ returns-2 c =
     let q = c.before.before.before.before in
     let t = q.before.before.before in
     let s = t.before.before.before.before.before in
-    q.gate_new.ensures ∙ three-read (λ (x y z : ℤ). gate_new_call s.args.gate_1.now s.args.gate_f_1.now s.args.n x y z s.args.lengths.now) s.args.on s.args.off s.args.early s.ranges.on s.ranges.off s.ranges.early
-    ∙ granted gate_new _ _ _ _ t.before.may.ensures t.if-not-may.false
+    q.gate_new.ensures ∙ three-read (λ (x y z : ℤ). gate_new_call s.args.gate.now s.args.gate_f.now s.args.n x y z s.args.lengths.now) s.args.on s.args.off s.args.early s.ranges.on s.ranges.off s.ranges.early
+    ∙ granted gate_new _ _ _ _ t.before.may.ensures (ap not t.if-not-may.false)
 
 pub wolfcloak_gate_new_spec : {M : Type 1} → statement M
 wolfcloak_gate_new_spec = tie.close (tie.spec may-requires returns gate-new-requires same_length same-length-2 returns-2)

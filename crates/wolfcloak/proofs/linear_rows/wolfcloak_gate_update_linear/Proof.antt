@@ -1,5 +1,6 @@
 -- `wolfcloak::linear_rows::wolfcloak_gate_update_linear` meets its contract: it is that of what it calls. Assumes nothing.
-use mathlib.Core.Path.{◌∙◌}
+use mathlib.Core.Bool.{not}
+use mathlib.Core.Path.{ap, ◌∙◌}
 use borrow.Author.Rules.{rules}
 use Rattle.roles.specs.Rights.{gate_update_linear}
 use Rattle.roles.proofs.Roles.{stopped, granted}
@@ -11,7 +12,7 @@ may-requires c κs = search rules
 
 -- the role lacks the right
 returns : tie.Need-returns-then-not-may
-returns c = stopped gate_update_linear _ _ _ _ c.before.may.ensures c.if-not-may.true
+returns c = stopped gate_update_linear _ _ _ _ c.before.may.ensures (ap not c.if-not-may.true)
 
 gate-update-linear-requires : tie.Need-gate_update_linear-requires
 gate-update-linear-requires c κs = search rules
@@ -33,7 +34,7 @@ returns-2 c =
     let q = c.before.before.before.before.before.before.before.before in
     let t = q.before.before.before.before.before in
     q.gate_update_linear.ensures
-    ∙ granted gate_update_linear _ _ _ _ t.before.may.ensures t.if-not-may.false
+    ∙ granted gate_update_linear _ _ _ _ t.before.may.ensures (ap not t.if-not-may.false)
 
 pub wolfcloak_gate_update_linear_spec : {M : Type 1} → statement M
 wolfcloak_gate_update_linear_spec = tie.close (tie.spec may-requires returns gate-update-linear-requires same_length same-length-2 same-length-3 same-length-4 returns-2)

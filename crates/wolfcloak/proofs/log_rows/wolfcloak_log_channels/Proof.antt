@@ -1,4 +1,5 @@
 -- `wolfcloak::log_rows::wolfcloak_log_channels` meets its contract. Assumes nothing.
+use mathlib.Core.Bool.{not}
 use mathlib.Core.Path.{ap, ◌∙◌}
 use Rattle.log_answers.specs.LogAnswers.{channels_answered}
 use borrow.Author.Rules.{rules}
@@ -12,7 +13,7 @@ may-requires c κs = search rules
 
 -- the role lacks the right
 returns : tie.Need-returns-then-not-may
-returns c = stopped log_channels _ _ _ _ c.before.may.ensures c.if-not-may.true
+returns c = stopped log_channels _ _ _ _ c.before.may.ensures (ap not c.if-not-may.true)
 
 log-channels-requires : tie.Need-log_channels-requires
 log-channels-requires c κs = search rules
@@ -26,7 +27,7 @@ returns-2 c =
     let t = q.before in
     let s = t.before.before.before in
     c.channels_answer.ensures ∙ ap (channels_answered s.args.n.now) q.log_channels.ensures
-    ∙ granted log_channels _ _ _ _ t.before.may.ensures t.if-not-may.false
+    ∙ granted log_channels _ _ _ _ t.before.may.ensures (ap not t.if-not-may.false)
 
 pub wolfcloak_log_channels_spec : {M : Type 1} → statement M
 wolfcloak_log_channels_spec =

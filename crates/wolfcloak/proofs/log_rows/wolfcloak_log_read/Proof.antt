@@ -1,4 +1,5 @@
 -- `wolfcloak::log_rows::wolfcloak_log_read` meets its contract. Assumes nothing.
+use mathlib.Core.Bool.{not}
 use mathlib.Core.Path.{ap, ◌∙◌}
 use Rattle.log_answers.specs.LogAnswers.{read_answered}
 use borrow.Author.Rules.{rules}
@@ -12,7 +13,7 @@ may-requires c κs = search rules
 
 -- the role lacks the right
 returns : tie.Need-returns-then-not-may
-returns c = stopped log_read _ _ _ _ c.before.may.ensures c.if-not-may.true
+returns c = stopped log_read _ _ _ _ c.before.may.ensures (ap not c.if-not-may.true)
 
 log-read-requires : tie.Need-log_read-requires
 log-read-requires c κs = search rules
@@ -31,8 +32,8 @@ returns-2 c =
     let q = c.before.before.before.before.before.before in
     let t = q.before.before.before.before in
     let s = t.before.before.before.before.before in
-    (λ i. ((c.read_answer.ensures i).0, (c.read_answer.ensures i).1, q.log_read.new.1.1.0, q.log_read.new.1.1.1.0)) ∙ ap (read_answered s.args.position.now) q.log_read.ensures
-    ∙ granted log_read _ _ _ _ t.before.may.ensures t.if-not-may.false
+    (λ i. ((c.read_answer.ensures i).0, (c.read_answer.ensures i).1, q.log_read.new.db_bits, q.log_read.new.power_bits)) ∙ ap (read_answered s.args.position.now) q.log_read.ensures
+    ∙ granted log_read _ _ _ _ t.before.may.ensures (ap not t.if-not-may.false)
 
 pub wolfcloak_log_read_spec : {M : Type 1} → statement M
 wolfcloak_log_read_spec =

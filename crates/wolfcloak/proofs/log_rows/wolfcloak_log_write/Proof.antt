@@ -1,4 +1,5 @@
 -- `wolfcloak::log_rows::wolfcloak_log_write` meets its contract. Assumes nothing.
+use mathlib.Core.Bool.{not}
 use mathlib.Core.Path.{ap, ◌∙◌}
 use Rattle.log_answers.specs.LogAnswers.{write_answered}
 use borrow.Author.Rules.{rules}
@@ -12,7 +13,7 @@ may-requires c κs = search rules
 
 -- the role lacks the right
 returns : tie.Need-returns-then-not-may
-returns c = stopped log_write _ _ _ _ c.before.may.ensures c.if-not-may.true
+returns c = stopped log_write _ _ _ _ c.before.may.ensures (ap not c.if-not-may.true)
 
 log-write-requires : tie.Need-log_write-requires
 log-write-requires c κs = search rules
@@ -28,8 +29,8 @@ returns-2 c =
     let q = c.before.before.before.before in
     let t = q.before.before in
     let s = t.before.before.before.before.before in
-    (λ i. ((c.length_answer.ensures i).0, (c.length_answer.ensures i).1, q.log_write.new.1.1.1.0)) ∙ ap (write_answered s.args.len.now) q.log_write.ensures
-    ∙ granted log_write _ _ _ _ t.before.may.ensures t.if-not-may.false
+    (λ i. ((c.length_answer.ensures i).0, (c.length_answer.ensures i).1, q.log_write.new.log)) ∙ ap (write_answered s.args.len.now) q.log_write.ensures
+    ∙ granted log_write _ _ _ _ t.before.may.ensures (ap not t.if-not-may.false)
 
 pub wolfcloak_log_write_spec : {M : Type 1} → statement M
 wolfcloak_log_write_spec =

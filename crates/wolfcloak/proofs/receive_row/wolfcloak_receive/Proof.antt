@@ -1,5 +1,6 @@
 -- `wolfcloak::receive_row::wolfcloak_receive` meets its contract: it is that of what it calls. Assumes nothing.
-use mathlib.Core.Path.{◌∙◌}
+use mathlib.Core.Bool.{not}
+use mathlib.Core.Path.{ap, ◌∙◌}
 use borrow.Author.Rules.{rules}
 use Rattle.roles.specs.Rights.{receive}
 use Rattle.roles.proofs.Roles.{stopped, granted}
@@ -11,7 +12,7 @@ may-requires c κs = search rules
 
 -- the role lacks the right
 returns : tie.Need-returns-then-not-may
-returns c = stopped receive _ _ _ _ c.before.may.ensures c.if-not-may.true
+returns c = stopped receive _ _ _ _ c.before.may.ensures (ap not c.if-not-may.true)
 
 receive-requires : tie.Need-receive-requires
 receive-requires c κs = search rules
@@ -39,7 +40,7 @@ returns-2 c =
     let q = c.before.before.before.before.before.before.before.before.before.before.before.before in
     let t = q.before.before.before.before.before.before.before in
     q.receive.ensures
-    ∙ granted receive _ _ _ _ t.before.may.ensures t.if-not-may.false
+    ∙ granted receive _ _ _ _ t.before.may.ensures (ap not t.if-not-may.false)
 
 pub wolfcloak_receive_spec : {M : Type 1} → statement M
 wolfcloak_receive_spec =
