@@ -19,23 +19,23 @@ below : (v : ℕ) (bu : List ℕ) (bf : List Float) → (v ≡ 0 → ⊥) → ex
 below zero bu bf h = absurd (h refl)
 below (suc k) bu bf h = ap (explanation_shown bu bf) (let z : suc k - 1 ≡ k = omega arith in z)
 
-no-explanation-requires : tie.Need-no-explanation-requires
+no-explanation-requires : tie.Need-no_explanation-requires
 no-explanation-requires c κs = search rules
 
-returns : tie.Need-returns
-returns c = c.no-explanation.ensures ∙ none _ _ _ c.before.if1.true
+returns : tie.Need-returns-then-s-eq0
+returns c = c.no_explanation.ensures ∙ none _ _ _ c.before.if-s-eq0.true
 
-sub-explanation-shown : tie.Need-overflow-sub-explanation-shown
+sub-explanation-shown : tie.Need-overflow_sub-s
 sub-explanation-shown c = search rules
 
-explanation-shown-requires : tie.Need-explanation-shown-requires
+explanation-shown-requires : tie.Need-explanation_shown-requires
 explanation-shown-requires c κs = search rules
 
-returns-2 : tie.Need-returns-2
-returns-2 c = c.explanation-shown.ensures ∙ below _ _ _ c.before.before.if1.false
+returns-2 : tie.Need-returns
+returns-2 c = c.explanation_shown.ensures ∙ below _ _ _ c.before.before.if-s-eq0.false
 
-pub explanation-before-spec : {M : Type 1} → statement M
-explanation-before-spec =
+pub explanation_before_spec : {M : Type 1} → statement M
+explanation_before_spec =
     tie.close
     (tie.spec
     no-explanation-requires

@@ -9,11 +9,11 @@ use Rattle.watch_report.proofs.explanations.explanation_shown.Tie as tie
 explain-requires : tie.Need-explain-requires
 explain-requires c κs = search rules
 
-explanation-of-requires : tie.Need-explanation-of-requires
+explanation-of-requires : tie.Need-explanation_of-requires
 explanation-of-requires c κs = search rules
 
 returns : tie.Need-returns
-returns c = c.explanation-of.ensures ∙ ap (explanation_or no_explanation) c.before.explain.ensures
+returns c = c.explanation_of.ensures ∙ ap (explanation_or no_explanation) c.before.explain.ensures
 
-pub explanation-shown-spec : {M : Type 1} → statement M
-explanation-shown-spec = tie.close (tie.spec explain-requires explanation-of-requires returns)
+pub explanation_shown_spec : {M : Type 1} → statement M
+explanation_shown_spec = tie.close (tie.spec explain-requires explanation-of-requires returns)

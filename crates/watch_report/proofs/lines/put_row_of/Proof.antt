@@ -5,27 +5,27 @@ use borrow.Author.Rules.{rules}
 use Rattle.watch_report.proofs.lines.put_row_of.Statement.{statement}
 use Rattle.watch_report.proofs.lines.put_row_of.Tie as tie
 
-floors-shown-requires : tie.Need-floors-shown-requires
+floors-shown-requires : tie.Need-floors_shown-f-requires
 floors-shown-requires c κs = search rules
 
-smoothed-shown-requires : tie.Need-smoothed-shown-requires
+smoothed-shown-requires : tie.Need-smoothed_shown-smoothed-requires
 smoothed-shown-requires c κs = search rules
 
-explanation-shown-requires : tie.Need-explanation-shown-requires
+explanation-shown-requires : tie.Need-explanation_shown-x-requires
 explanation-shown-requires c κs = search rules
 
-put-row-line-requires : tie.Need-put-row-line-requires
+put-row-line-requires : tie.Need-put_row_line-requires
 put-row-line-requires c κs = search rules
 
 returns : tie.Need-returns
 returns c =
     let x = c.before.before in
     let a = x.before.before.before.before.before.before.before.args in
-    c.put-row-line.ensures
-    ∙ (λ i. put_texts (a.line.now, 0) (row_line a.hop a.k a.db (x.before.smoothed-shown.ensures i) (x.before.before.floors-shown.ensures i) a.is-alive a.event (x.explanation-shown.ensures i)))
+    c.put_row_line.ensures
+    ∙ (λ i. put_texts (a.line.now, 0) (row_line a.hop a.k a.db (x.before.smoothed_shown-smoothed.ensures i) (x.before.before.floors_shown-f.ensures i) a.is_alive a.event (x.explanation_shown-x.ensures i)))
 
-pub put-row-of-spec : {M : Type 1} → statement M
-put-row-of-spec =
+pub put_row_of_spec : {M : Type 1} → statement M
+put_row_of_spec =
     tie.close
     (tie.spec
     floors-shown-requires

@@ -9,11 +9,11 @@ use Rattle.watch_report.proofs.out.floors_shown.Tie as tie
 floors-requires : tie.Need-floors-requires
 floors-requires c κs = search rules
 
-floors-of-requires : tie.Need-floors-of-requires
+floors-of-requires : tie.Need-floors_of-requires
 floors-of-requires c κs = search rules
 
 returns : tie.Need-returns
-returns c = c.floors-of.ensures ∙ ap (floorsOr noFloors) c.before.floors.ensures
+returns c = c.floors_of.ensures ∙ ap (floorsOr noFloors) c.before.floors.ensures
 
-pub floors-shown-spec : {M : Type 1} → statement M
-floors-shown-spec = tie.close (tie.spec floors-requires floors-of-requires returns)
+pub floors_shown_spec : {M : Type 1} → statement M
+floors_shown_spec = tie.close (tie.spec floors-requires floors-of-requires returns)

@@ -4,14 +4,14 @@ use Rattle.watch_report.proofs.Shows.{not-read, was_read}
 use Rattle.watch_report.proofs.out.worst_shown.Statement.{statement}
 use Rattle.watch_report.proofs.out.worst_shown.Tie as tie
 
-returns : tie.Need-returns
-returns c = not-read _ _ _ _ _ _ c.if1.true
+returns : tie.Need-returns-then-s-eq0
+returns c = not-read _ _ _ _ _ _ c.if-s-eq0.true
 
-worst-floor-requires : tie.Need-worst-floor-requires
+worst-floor-requires : tie.Need-worst_floor-requires
 worst-floor-requires c κs = search rules
 
-returns-2 : tie.Need-returns-2
-returns-2 c = was_read _ _ _ _ _ _ _ c.before.if1.false c.worst-floor.ensures
+returns-2 : tie.Need-returns
+returns-2 c = was_read _ _ _ _ _ _ _ c.before.if-s-eq0.false c.worst_floor.ensures
 
-pub worst-shown-spec : {M : Type 1} → statement M
-worst-shown-spec = tie.close (tie.spec returns worst-floor-requires returns-2)
+pub worst_shown_spec : {M : Type 1} → statement M
+worst_shown_spec = tie.close (tie.spec returns worst-floor-requires returns-2)

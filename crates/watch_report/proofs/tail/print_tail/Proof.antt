@@ -6,47 +6,47 @@ use borrow.Author.Rules.{rules}
 use Rattle.watch_report.proofs.tail.print_tail.Statement.{statement}
 use Rattle.watch_report.proofs.tail.print_tail.Tie as tie
 
-abbrev invariant-loop : tie.invariant-loop
+abbrev invariant-loop : tie.invariant-loop-k
 invariant-loop s hops bank bank-f worst worst-f alive alive-hops rises k₀ k-end k = (k-end ≡ length alive) × (k-end < 18446744073709551616)
 
-abbrev decreases-loop : tie.decreases-loop
+abbrev decreases-loop : tie.decreases-loop-k
 decreases-loop s hops bank bank-f worst worst-f alive alive-hops rises k₀ k-end k = k-end - k
 
-returns : tie.Need-returns invariant-loop decreases-loop
+returns : tie.Need-returns-then-s invariant-loop decreases-loop
 returns c = search rules
 
-print-total-requires : tie.Need-print-total-requires invariant-loop decreases-loop
+print-total-requires : tie.Need-print_total-requires invariant-loop decreases-loop
 print-total-requires c κs = search rules
 
-loop-holds : tie.Need-loop-init invariant-loop decreases-loop
+loop-holds : tie.Need-loop-k-init invariant-loop decreases-loop
 loop-holds c = search rules
 
-is-set-requires : tie.Need-is-set-requires invariant-loop decreases-loop
+is-set-requires : tie.Need-is_set-requires invariant-loop decreases-loop
 is-set-requires c κs = search rules
 
-count-at-requires : tie.Need-count-at-requires invariant-loop decreases-loop
+count-at-requires : tie.Need-count_at-requires invariant-loop decreases-loop
 count-at-requires c κs = search rules
 
-count-at-requires-2 : tie.Need-count-at-requires-2 invariant-loop decreases-loop
+count-at-requires-2 : tie.Need-count_at-requires-in-loop-k invariant-loop decreases-loop
 count-at-requires-2 c κs = search rules
 
-print-channel-requires : tie.Need-print-channel-requires invariant-loop decreases-loop
+print-channel-requires : tie.Need-print_channel-requires invariant-loop decreases-loop
 print-channel-requires c κs = search rules
 
-add-k : tie.Need-overflow-add-k invariant-loop decreases-loop
-add-k c = omega (arith, c.before.before.before.before.loop-test.true, c.before.before.before.before.before.loop.invariant.1)
+add-k : tie.Need-overflow_step-k invariant-loop decreases-loop
+add-k c = omega (arith, c.before.before.before.before.loop-k-test.true, c.before.before.before.before.before.loop-k.invariant.1)
 
-loop-less : tie.Need-loop-smaller invariant-loop decreases-loop
+loop-less : tie.Need-loop-k-smaller invariant-loop decreases-loop
 loop-less c = search rules
 
-loop-again : tie.Need-loop-preserved invariant-loop decreases-loop
+loop-again : tie.Need-loop-k-preserved invariant-loop decreases-loop
 loop-again c = search rules
 
-returns-2 : tie.Need-returns-2 invariant-loop decreases-loop
+returns-2 : tie.Need-returns invariant-loop decreases-loop
 returns-2 c = search rules
 
-pub print-tail-spec : {M : Type 1} → statement M
-print-tail-spec =
+pub print_tail_spec : {M : Type 1} → statement M
+print_tail_spec =
     tie.close
     (tie.spec
     invariant-loop
