@@ -1,4 +1,6 @@
 // Replays a kept list of calls of a bank and a gate and compares what floor.rs answered to them; tests/compare/README.md says how the list is made.
+#![tactic(auto)]
+
 mod records;
 
 use replay_data::state::{GATE_LEN, MOST, MOST_F_LEN, MOST_GATE_F_LEN, MOST_LEN, Replay};
