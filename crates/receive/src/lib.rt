@@ -43,7 +43,7 @@ fn run(
     drop: &mut [u8],
 )
     requires { run_refusal bank.old bank_f.old gate.old gate_f.old (record { hold = hold.now; db = power_db.now; power = power.now; rise = rise.old; drop = drop.old }) ≡ 0 }
-    ensures { (0, bank.new, bank_f.new, gate.new, gate_f.new, rise.new, drop.new) ≡ received bank.old bank_f.old gate.old gate_f.old (record { hold = hold.entry.now; db = power_db.now; power = power.now; rise = rise.old; drop = drop.old }) }
+    ensures { (0, bank.new, bank_f.new, gate.new, gate_f.new, rise.new, drop.new) ≡ received bank.old bank_f.old gate.old gate_f.old (record { hold = hold.now; db = power_db.now; power = power.now; rise = rise.old; drop = drop.old }) }
 {
     let n = laws::wide(gate[0]);
     let mut at: usize = 0;
@@ -81,7 +81,7 @@ pub fn receive(
     rise: &mut [u8],
     drop: &mut [u8],
 ) -> u16
-    ensures { (result, bank.new, bank_f.new, gate.new, gate_f.new, rise.new, drop.new) ≡ received bank.old bank_f.old gate.old gate_f.old (record { hold = hold.entry.now; db = power_db.now; power = power.now; rise = rise.old; drop = drop.old }) }
+    ensures { (result, bank.new, bank_f.new, gate.new, gate_f.new, rise.new, drop.new) ≡ received bank.old bank_f.old gate.old gate_f.old (record { hold = hold.now; db = power_db.now; power = power.now; rise = rise.old; drop = drop.old }) }
 {
     let refusal = run_refusals::run_refusal(
         bank,

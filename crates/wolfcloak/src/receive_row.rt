@@ -16,7 +16,7 @@ pub extern "C" fn wolfcloak_receive(
     rise: &mut [u8],
     drop: &mut [u8],
 ) -> u16
-    ensures { (result, bank.new, bank_f.new, gate.new, gate_f.new, rise.new, drop.new) ≡ as_role receive role (λ r. (r, bank.old, bank_f.old, gate.old, gate_f.old, rise.old, drop.old)) (received bank.old bank_f.old gate.old gate_f.old (record { hold = hold.entry.now; db = power_db.now; power = power.now; rise = rise.old; drop = drop.old })) }
+    ensures { (result, bank.new, bank_f.new, gate.new, gate_f.new, rise.new, drop.new) ≡ as_role receive role (λ r. (r, bank.old, bank_f.old, gate.old, gate_f.old, rise.old, drop.old)) (received bank.old bank_f.old gate.old gate_f.old (record { hold = hold.now; db = power_db.now; power = power.now; rise = rise.old; drop = drop.old })) }
 {
     if !roles::may(roles::UPDATING, role) {
         return roles::STOPPED;
