@@ -4,7 +4,6 @@ use mathlib.Core.List.{List}
 use Prim.Native.Nat.{ℕ, zero, suc, ◌-◌}
 use lib.Ieee.{Float}
 use native.Mathlib.Omega.{arith}
-use Rattle.origins.specs.declared.Explanation.{Explanation}
 use Rattle.watch_origins.specs.Told.{no_explanation}
 use borrow.Author.Rules.{rules}
 use Rattle.watch_report.specs.Shown.{explanation_shown, explanation_before}
