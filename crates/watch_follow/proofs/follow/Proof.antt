@@ -5,39 +5,39 @@ use Rattle.watch_follow.proofs.Follows.{stops, goes}
 use Rattle.watch_follow.proofs.follow.Statement.{statement}
 use Rattle.watch_follow.proofs.follow.Tie as tie
 
-is-taken-requires : tie.Need-is-taken-requires
+is-taken-requires : tie.Need-is_taken-requires
 is-taken-requires c κs = search rules
 
-print-stop-requires : tie.Need-print-stop-requires
+print-stop-requires : tie.Need-print_stop-requires
 print-stop-requires c κs = search rules
 
-returns : tie.Need-returns
-returns c = stops _ 0 _ _ _ _ _ _ _ _ c.before.before.is-taken.ensures _ (not-true _ c.before.if1.true) c.print-stop.ensures
+returns : tie.Need-returns-then-not-is_taken
+returns c = stops _ 0 _ _ _ _ _ _ _ _ c.before.before.is_taken.ensures _ (not-true _ c.before.if-not-is_taken.true) c.print_stop.ensures
 
-taken-bytes-requires : tie.Need-taken-bytes-requires
+taken-bytes-requires : tie.Need-taken_bytes-requires
 taken-bytes-requires c κs = search rules
 
-take-hop-requires : tie.Need-take-hop-requires
+take-hop-requires : tie.Need-take_hop-requires
 take-hop-requires c κs = search rules
 
-same_length : tie.Need-same-length
+same_length : tie.Need-shape_of-alive
 same_length c = search rules
 
-same-length-2 : tie.Need-same-length-2
+same-length-2 : tie.Need-shape_of-alive_hops
 same-length-2 c = search rules
 
-same-length-3 : tie.Need-same-length-3
+same-length-3 : tie.Need-shape_of-events
 same-length-3 c = search rules
 
-same-length-4 : tie.Need-same-length-4
+same-length-4 : tie.Need-shape_of-rises
 same-length-4 c = search rules
 
-returns-2 : tie.Need-returns-2
+returns-2 : tie.Need-returns
 returns-2 c =
-    goes _ _ _ _ _ _ _ _ _ _ c.before.before.before.before.before.before.before.before.before.before.before.before.before.before.before.is-taken.ensures _ (not-false _ c.before.before.before.before.before.before.before.before.before.before.before.before.before.before.if1.false) c.before.before.before.before.before.before.before.before.before.before.before.before.before.taken-bytes.ensures c.before.before.before.before.before.before.before.before.take-hop.ensures
+    goes _ _ _ _ _ _ _ _ _ _ c.before.before.before.before.before.before.before.before.before.before.before.before.before.before.before.is_taken.ensures _ (not-false _ c.before.before.before.before.before.before.before.before.before.before.before.before.before.before.if-not-is_taken.false) c.before.before.before.before.before.before.before.before.before.before.before.before.before.taken_bytes.ensures c.before.before.before.before.before.before.before.before.take_hop.ensures
 
-pub follow-spec : {M : Type 1} → statement M
-follow-spec =
+pub follow_spec : {M : Type 1} → statement M
+follow_spec =
     tie.close
     (tie.spec
     is-taken-requires
