@@ -1,4 +1,6 @@
 // What follows on a hop: it is told and counted, or the watch ends.
+#![tactic(auto)]
+
 ghost use Rattle.std.specs.Prelude.{◌≡◌};
 ghost use Rattle.watch_follow.specs.Followed.{is_taken, taken_bytes, stopped, after_hop, followed};
 

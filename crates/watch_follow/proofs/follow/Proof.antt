@@ -1,4 +1,6 @@
 -- `watch_follow::follow` meets its contract: what is not taken changes nothing. Assumes nothing.
+use mathlib.Core.Bool.{not}
+use mathlib.Core.Path.{ap}
 use borrow.Author.Rules.{rules}
 use borrow.Author.Tests.{not-true, not-false}
 use Rattle.watch_follow.proofs.Follows.{stops, goes}
@@ -12,7 +14,7 @@ print-stop-requires : tie.Need-print_stop-requires
 print-stop-requires c κs = search rules
 
 returns : tie.Need-returns-then-not-is_taken
-returns c = stops _ 0 _ _ _ _ _ _ _ _ c.before.before.is_taken.ensures _ (not-true _ c.before.if-not-is_taken.true) c.print_stop.ensures
+returns c = stops _ 0 _ _ _ _ _ _ _ _ c.before.before.is_taken.ensures _ (not-true _ (ap not c.before.if-not-is_taken.true)) c.print_stop.ensures
 
 taken-bytes-requires : tie.Need-taken_bytes-requires
 taken-bytes-requires c κs = search rules
@@ -34,7 +36,7 @@ same-length-4 c = search rules
 
 returns-2 : tie.Need-returns
 returns-2 c =
-    goes _ _ _ _ _ _ _ _ _ _ c.before.before.before.before.before.before.before.before.before.before.before.before.before.before.before.is_taken.ensures _ (not-false _ c.before.before.before.before.before.before.before.before.before.before.before.before.before.before.if-not-is_taken.false) c.before.before.before.before.before.before.before.before.before.before.before.before.before.taken_bytes.ensures c.before.before.before.before.before.before.before.before.take_hop.ensures
+    goes _ _ _ _ _ _ _ _ _ _ c.before.before.before.before.before.before.before.before.before.before.before.before.before.before.before.is_taken.ensures _ (not-false _ (ap not c.before.before.before.before.before.before.before.before.before.before.before.before.before.before.if-not-is_taken.false)) c.before.before.before.before.before.before.before.before.before.before.before.before.before.taken_bytes.ensures c.before.before.before.before.before.before.before.before.take_hop.ensures
 
 pub follow_spec : {M : Type 1} → statement M
 follow_spec =

@@ -36,7 +36,7 @@ same-length-4 c = search rules
 
 returns : tie.Need-returns
 returns c =
-    took _ _ _ _ _ _ _ _ _ _ _ _ _ _ _ c.before.before.before.before.before.before.before.before.before.before.before.before.before.before.before.before.before.before.before.before.before.before.count_rises.ensures c.before.before.before.before.before.before.before.before.before.before.before.before.before.before.before.before.before.add_events.ensures c.before.before.before.before.before.before.before.before.before.before.before.is_slow.ensures c.before.before.before.before.before.before.before.close_hop.ensures c.next_place.ensures
+    took _ _ _ _ _ _ _ _ _ _ _ _ _ _ _ c.before.before.before.before.before.before.before.before.before.before.before.before.before.before.before.before.before.before.before.count_rises.ensures c.before.before.before.before.before.before.before.before.before.before.before.before.before.before.before.add_events.ensures c.before.before.before.before.before.before.before.before.before.before.before.is_slow.ensures c.before.before.before.before.before.before.before.close_hop.ensures c.next_place.ensures
 
 pub take_hop_spec : {M : Type 1} → statement M
 take_hop_spec =
