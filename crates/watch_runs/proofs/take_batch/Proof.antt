@@ -8,90 +8,90 @@ use borrow.Author.Rules.{rules}
 use Rattle.watch_runs.proofs.take_batch.Statement.{statement}
 use Rattle.watch_runs.proofs.take_batch.Tie as tie
 
-explanation-before-requires : tie.Need-explanation-before-requires
+explanation-before-requires : tie.Need-explanation_before-before-requires
 explanation-before-requires c κs = search rules
 
-started-of-requires : tie.Need-started-of-requires
+started-of-requires : tie.Need-started_of-started-requires
 started-of-requires c κs = search rules
 
-least-requires : tie.Need-least-requires
+least-requires : tie.Need-least-k-requires
 least-requires c κs = search rules
 
-array-borrow-prefix-smooth : tie.Need-array-borrow-prefix-smooth
-array-borrow-prefix-smooth c = omega (arith, c.before.least.ensures.1)
+array-borrow-prefix-smooth : tie.Need-slice_bounds-smooth-end
+array-borrow-prefix-smooth c = omega (arith, c.before.least-k.ensures.1)
 
-slice-aggregate-keep-db : tie.Need-slice-aggregate-keep-db
-slice-aggregate-keep-db c = sym (length-take-le _ _ (omega (arith, c.before.before.least.ensures.1)))
+slice-aggregate-keep-db : tie.Need-slice_bounds-keep_db-end
+slice-aggregate-keep-db c = sym (length-take-le _ _ (omega (arith, c.before.before.least-k.ensures.1)))
 
-keep-db-requires : tie.Need-keep-db-requires
+keep-db-requires : tie.Need-keep_db-requires
 keep-db-requires c κs = search rules
 
-hear-batch-requires : tie.Need-hear-batch-requires
+hear-batch-requires : tie.Need-hear_batch-took-requires
 hear-batch-requires c κs = (c.before.before.before.before.before.before.before.before.before.before.before.before.before.before.before.before.before.before.before.before.before.before.before.before.before.before.before.before.before.before.before.before.before.before.requires.0, c.before.before.before.before.before.before.before.before.before.before.before.before.before.before.before.before.before.before.before.before.before.before.before.before.before.before.before.before.before.before.before.before.before.before.requires.1, c.before.before.before.before.before.before.before.before.before.before.before.before.before.before.before.before.before.before.before.before.before.before.before.before.before.before.before.before.before.before.before.before.before.before.requires.2, c.before.before.before.before.before.before.before.before.before.before.before.before.before.before.before.before.before.before.before.before.before.before.before.before.before.before.before.before.before.before.before.before.before.before.requires.3, c.before.before.before.before.before.before.before.before.before.before.before.before.before.before.before.before.before.before.before.before.before.before.before.before.before.before.before.before.before.before.before.before.before.before.requires.4)
 
-hops-of-requires : tie.Need-hops-of-requires
+hops-of-requires : tie.Need-hops_of-requires
 hops-of-requires c κs = search rules
 
-array-borrow-prefix-smooth-2 : tie.Need-array-borrow-prefix-smooth-2
-array-borrow-prefix-smooth-2 c = simp length-append (omega (arith, c.before.before.before.before.before.before.before.before.before.before.before.before.before.before.before.before.before.before.before.before.before.before.before.before.before.before.before.before.before.before.before.before.before.before.before.before.before.smooth2.given, slice-aggregate-keep-db c.before.before.before.before.before.before.before.before.before.before.before.before.before.before.before.before.before.before.before.before.before.before.before.before.before.before.before.before.before.before.before.before.before.before.before.before.before.before.before, c.before.before.before.before.before.before.before.before.before.before.before.before.before.before.before.before.before.before.before.before.before.before.before.before.before.before.before.before.before.before.before.before.before.before.before.before.before.before.before.before.before.least.ensures.1))
+array-borrow-prefix-smooth-2 : tie.Need-slice_bounds-smooth-end-2
+array-borrow-prefix-smooth-2 c = simp length-append (omega (arith, c.before.before.before.before.before.before.before.before.before.before.before.before.before.before.before.before.before.before.before.before.before.before.before.before.before.before.before.before.before.before.before.before.before.before.before.before.before.smooth-2-1.given, slice-aggregate-keep-db c.before.before.before.before.before.before.before.before.before.before.before.before.before.before.before.before.before.before.before.before.before.before.before.before.before.before.before.before.before.before.before.before.before.before.before.before.before.before.before, c.before.before.before.before.before.before.before.before.before.before.before.before.before.before.before.before.before.before.before.before.before.before.before.before.before.before.before.before.before.before.before.before.before.before.before.before.before.before.before.before.before.least-k.ensures.1))
 
-slice-aggregate-tell-hops : tie.Need-slice-aggregate-tell-hops
-slice-aggregate-tell-hops c = sym (length-take-le _ _ (simp length-append (omega (arith, c.before.before.before.before.before.before.before.before.before.before.before.before.before.before.before.before.before.before.before.before.before.before.before.before.before.before.before.before.before.before.before.before.before.before.before.before.before.before.smooth2.given, slice-aggregate-keep-db c.before.before.before.before.before.before.before.before.before.before.before.before.before.before.before.before.before.before.before.before.before.before.before.before.before.before.before.before.before.before.before.before.before.before.before.before.before.before.before.before, c.before.before.before.before.before.before.before.before.before.before.before.before.before.before.before.before.before.before.before.before.before.before.before.before.before.before.before.before.before.before.before.before.before.before.before.before.before.before.before.before.before.before.least.ensures.1))))
+slice-aggregate-tell-hops : tie.Need-slice_bounds-tell_hops-end
+slice-aggregate-tell-hops c = sym (length-take-le _ _ (simp length-append (omega (arith, c.before.before.before.before.before.before.before.before.before.before.before.before.before.before.before.before.before.before.before.before.before.before.before.before.before.before.before.before.before.before.before.before.before.before.before.before.before.before.smooth-2-1.given, slice-aggregate-keep-db c.before.before.before.before.before.before.before.before.before.before.before.before.before.before.before.before.before.before.before.before.before.before.before.before.before.before.before.before.before.before.before.before.before.before.before.before.before.before.before.before, c.before.before.before.before.before.before.before.before.before.before.before.before.before.before.before.before.before.before.before.before.before.before.before.before.before.before.before.before.before.before.before.before.before.before.before.before.before.before.before.before.before.before.least-k.ensures.1))))
 
-tell-hops-requires : tie.Need-tell-hops-requires
+tell-hops-requires : tie.Need-tell_hops-told-requires
 tell-hops-requires c κs = (
-  still _ _ _ _ _ _ c.before.before.before.before.before.before.before.before.before.before.before.before.before.before.before.before.before.before.before.before.before.db.given c.before.before.before.before.before.before.before.before.before.before.before.before.before.before.before.before.before.before.before.before.before.before.before.before.before.before.before.before.before.before.before.before.before.before.before.before.before.before.before.before.before.before.before.before.before.before.before.before.before.before.before.before.before.before.before.before.before.before.before.before.before.before.before.before.before.before.before.requires.1 refl c.before.before.before.before.before.before.before.before.before.before.before.before.before.before.before.before.before.before.before.before.before.before.before.hold.given,
-  still _ _ _ _ _ _ c.before.before.before.before.before.before.before.before.before.before.before.before.before.before.before.before.before.rise.given c.before.before.before.before.before.before.before.before.before.before.before.before.before.before.before.before.before.before.before.before.before.before.before.before.before.before.before.before.before.before.before.before.before.before.before.before.before.before.before.before.before.before.before.before.before.before.before.before.before.before.before.before.before.before.before.before.before.before.before.before.before.before.before.before.before.before.before.requires.3 refl c.before.before.before.before.before.before.before.before.before.before.before.before.before.before.before.before.before.before.before.before.before.before.before.hold.given,
-  still _ _ _ _ _ _ c.before.before.before.before.before.before.before.before.before.before.before.before.before.before.before.drop.given c.before.before.before.before.before.before.before.before.before.before.before.before.before.before.before.before.before.before.before.before.before.before.before.before.before.before.before.before.before.before.before.before.before.before.before.before.before.before.before.before.before.before.before.before.before.before.before.before.before.before.before.before.before.before.before.before.before.before.before.before.before.before.before.before.before.before.before.requires.4 refl c.before.before.before.before.before.before.before.before.before.before.before.before.before.before.before.before.before.before.before.before.before.before.before.hold.given,
+  still _ _ _ _ _ _ c.before.before.before.before.before.before.before.before.before.before.before.before.before.before.before.before.before.before.before.before.before.db-1.given c.before.before.before.before.before.before.before.before.before.before.before.before.before.before.before.before.before.before.before.before.before.before.before.before.before.before.before.before.before.before.before.before.before.before.before.before.before.before.before.before.before.before.before.before.before.before.before.before.before.before.before.before.before.before.before.before.before.before.before.before.before.before.before.before.before.before.before.requires.1 refl c.before.before.before.before.before.before.before.before.before.before.before.before.before.before.before.before.before.before.before.before.before.before.before.hold-1.given,
+  still _ _ _ _ _ _ c.before.before.before.before.before.before.before.before.before.before.before.before.before.before.before.before.before.rise-1.given c.before.before.before.before.before.before.before.before.before.before.before.before.before.before.before.before.before.before.before.before.before.before.before.before.before.before.before.before.before.before.before.before.before.before.before.before.before.before.before.before.before.before.before.before.before.before.before.before.before.before.before.before.before.before.before.before.before.before.before.before.before.before.before.before.before.before.before.requires.3 refl c.before.before.before.before.before.before.before.before.before.before.before.before.before.before.before.before.before.before.before.before.before.before.before.hold-1.given,
+  still _ _ _ _ _ _ c.before.before.before.before.before.before.before.before.before.before.before.before.before.before.before.drop-1.given c.before.before.before.before.before.before.before.before.before.before.before.before.before.before.before.before.before.before.before.before.before.before.before.before.before.before.before.before.before.before.before.before.before.before.before.before.before.before.before.before.before.before.before.before.before.before.before.before.before.before.before.before.before.before.before.before.before.before.before.before.before.before.before.before.before.before.before.requires.4 refl c.before.before.before.before.before.before.before.before.before.before.before.before.before.before.before.before.before.before.before.before.before.before.before.hold-1.given,
 )
 
-close-batch-requires : tie.Need-close-batch-requires
+close-batch-requires : tie.Need-close_batch-requires
 close-batch-requires c κs = search rules
 
-same_length : tie.Need-same-length
-same_length c = c.before.before.before.before.before.before.before.before.before.before.before.before.before.before.before.before.before.before.before.before.before.before.before.before.before.before.before.before.before.before.before.before.before.before.before.before.before.before.before.before.before.before.before.before.bank.given
+same_length : tie.Need-shape_of-bank
+same_length c = c.before.before.before.before.before.before.before.before.before.before.before.before.before.before.before.before.before.before.before.before.before.before.before.before.before.before.before.before.before.before.before.before.before.before.before.before.before.before.before.before.before.before.before.before.bank-1.given
 
-same-length-2 : tie.Need-same-length-2
-same-length-2 c = c.before.before.before.before.before.before.before.before.before.before.before.before.before.before.before.before.before.before.before.before.before.before.before.before.before.before.before.before.before.before.before.before.before.before.before.before.before.before.before.before.before.before.bank-f.given
+same-length-2 : tie.Need-shape_of-bank_f
+same-length-2 c = c.before.before.before.before.before.before.before.before.before.before.before.before.before.before.before.before.before.before.before.before.before.before.before.before.before.before.before.before.before.before.before.before.before.before.before.before.before.before.before.before.before.before.bank_f-1.given
 
-same-length-3 : tie.Need-same-length-3
-same-length-3 c = c.before.before.before.before.before.before.before.before.before.before.before.before.before.before.before.before.before.before.before.before.before.before.before.before.before.before.before.before.before.before.before.before.before.before.before.before.before.before.before.before.gate.given
+same-length-3 : tie.Need-shape_of-gate
+same-length-3 c = c.before.before.before.before.before.before.before.before.before.before.before.before.before.before.before.before.before.before.before.before.before.before.before.before.before.before.before.before.before.before.before.before.before.before.before.before.before.before.before.before.gate-1.given
 
-same-length-4 : tie.Need-same-length-4
-same-length-4 c = c.before.before.before.before.before.before.before.before.before.before.before.gate-f2.given ∙ c.before.before.before.before.before.before.before.before.before.before.before.before.before.before.before.before.before.before.before.before.before.before.before.before.before.before.before.before.before.before.before.before.before.before.before.before.before.before.gate-f.given
+same-length-4 : tie.Need-shape_of-gate_f
+same-length-4 c = c.before.before.before.before.before.before.before.before.before.before.before.gate_f-2-1.given ∙ c.before.before.before.before.before.before.before.before.before.before.before.before.before.before.before.before.before.before.before.before.before.before.before.before.before.before.before.before.before.before.before.before.before.before.before.before.before.before.gate_f-1.given
 
-same-length-5 : tie.Need-same-length-5
-same-length-5 c = c.before.before.before.before.before.before.before.before.before.before.before.before.before.before.before.before.before.before.before.before.before.before.before.before.before.before.before.before.before.before.before.before.before.before.before.before.hold.given
+same-length-5 : tie.Need-shape_of-hold
+same-length-5 c = c.before.before.before.before.before.before.before.before.before.before.before.before.before.before.before.before.before.before.before.before.before.before.before.before.before.before.before.before.before.before.before.before.before.before.before.before.hold-1.given
 
-same-length-6 : tie.Need-same-length-6
-same-length-6 c = c.before.before.before.before.before.before.before.before.before.before.before.before.before.before.before.before.before.before.before.before.before.before.before.before.before.before.before.before.before.before.before.before.before.before.db.given
+same-length-6 : tie.Need-shape_of-db
+same-length-6 c = c.before.before.before.before.before.before.before.before.before.before.before.before.before.before.before.before.before.before.before.before.before.before.before.before.before.before.before.before.before.before.before.before.before.before.db-1.given
 
-same-length-7 : tie.Need-same-length-7
-same-length-7 c = c.before.before.before.before.before.before.before.before.before.before.before.before.before.before.before.before.before.before.before.before.before.before.before.before.before.before.before.before.before.before.before.before.power.given
+same-length-7 : tie.Need-shape_of-power
+same-length-7 c = c.before.before.before.before.before.before.before.before.before.before.before.before.before.before.before.before.before.before.before.before.before.before.before.before.before.before.before.before.before.before.before.before.power-1.given
 
-same-length-8 : tie.Need-same-length-8
-same-length-8 c = c.before.before.before.before.before.before.before.before.before.before.before.before.before.before.before.before.before.before.before.before.before.before.before.before.before.before.before.before.before.before.rise.given
+same-length-8 : tie.Need-shape_of-rise
+same-length-8 c = c.before.before.before.before.before.before.before.before.before.before.before.before.before.before.before.before.before.before.before.before.before.before.before.before.before.before.before.before.before.before.rise-1.given
 
-same-length-9 : tie.Need-same-length-9
-same-length-9 c = c.before.before.before.before.before.before.before.before.before.before.before.before.before.before.before.before.before.before.before.before.before.before.before.before.before.before.before.before.drop.given
+same-length-9 : tie.Need-shape_of-drop
+same-length-9 c = c.before.before.before.before.before.before.before.before.before.before.before.before.before.before.before.before.before.before.before.before.before.before.before.before.before.before.before.before.drop-1.given
 
-same-length-10 : tie.Need-same-length-10
-same-length-10 c = c.before.before.before.before.before.before.before.before.alive.given
+same-length-10 : tie.Need-shape_of-alive
+same-length-10 c = c.before.before.before.before.before.before.before.before.alive-1.given
 
-same-length-11 : tie.Need-same-length-11
-same-length-11 c = c.before.before.before.before.before.before.alive-hops.given
+same-length-11 : tie.Need-shape_of-alive_hops
+same-length-11 c = c.before.before.before.before.before.before.alive_hops-1.given
 
-same-length-12 : tie.Need-same-length-12
-same-length-12 c = c.before.before.before.before.events.given
+same-length-12 : tie.Need-shape_of-events
+same-length-12 c = c.before.before.before.before.events-1.given
 
-same-length-13 : tie.Need-same-length-13
-same-length-13 c = c.before.before.rises.given
+same-length-13 : tie.Need-shape_of-rises
+same-length-13 c = c.before.before.rises-1.given
 
 returns : tie.Need-returns
 returns c = search rules
 
-pub take-batch-spec : {M : Type 1} → statement M
-take-batch-spec =
+pub take_batch_spec : {M : Type 1} → statement M
+take_batch_spec =
     tie.close
     (tie.spec
     explanation-before-requires

@@ -10,85 +10,85 @@ use Rattle.watch_runs.proofs.watch_runs.Tie as tie
 wide-requires : tie.Need-wide-requires
 wide-requires c κs = search rules
 
-least-requires : tie.Need-least-requires
+least-requires : tie.Need-least-k-requires
 least-requires c κs = search rules
 
-hop-bytes-requires : tie.Need-hop-bytes-requires
+hop-bytes-requires : tie.Need-hop_bytes-requires
 hop-bytes-requires c κs = search rules
 
-mul-least : tie.Need-overflow-mul-least
+mul-least : tie.Need-overflow_mul-hop_bytes
 mul-least c = omega arith
 
-least-requires-2 : tie.Need-least-requires-2
+least-requires-2 : tie.Need-least-size-requires
 least-requires-2 c κs = search rules
 
-array-borrow-prefix-bytes : tie.Need-array-borrow-prefix-bytes
+array-borrow-prefix-bytes : tie.Need-slice_bounds-bytes-end
 array-borrow-prefix-bytes c = omega arith
 
-slice-aggregate-watch-all : tie.Need-slice-aggregate-watch-all
+slice-aggregate-watch-all : tie.Need-slice_bounds-watch_all-end
 slice-aggregate-watch-all c = sym (length-take-le _ _ (omega arith))
 
-mul-db : tie.Need-overflow-mul-db
+mul-db : tie.Need-overflow_mul-db
 mul-db c = omega arith
 
-array-borrow-prefix-db : tie.Need-array-borrow-prefix-db
+array-borrow-prefix-db : tie.Need-slice_bounds-db-end
 array-borrow-prefix-db c = omega arith
 
-slice-aggregate-watch-all-2 : tie.Need-slice-aggregate-watch-all-2
+slice-aggregate-watch-all-2 : tie.Need-slice_bounds-watch_all-end-2
 slice-aggregate-watch-all-2 c = sym (length-take-le _ _ (omega arith))
 
-mul_power : tie.Need-overflow-mul-power
+mul_power : tie.Need-overflow_mul-power
 mul_power c = omega arith
 
-array-borrow-prefix-power : tie.Need-array-borrow-prefix-power
+array-borrow-prefix-power : tie.Need-slice_bounds-power-end
 array-borrow-prefix-power c = omega arith
 
-slice-aggregate-watch-all-3 : tie.Need-slice-aggregate-watch-all-3
+slice-aggregate-watch-all-3 : tie.Need-slice_bounds-watch_all-end-3
 slice-aggregate-watch-all-3 c = sym (length-take-le _ _ (omega arith))
 
-mul-rise : tie.Need-overflow-mul-rise
+mul-rise : tie.Need-overflow_mul-rise
 mul-rise c = omega arith
 
-array-borrow-prefix-rise : tie.Need-array-borrow-prefix-rise
+array-borrow-prefix-rise : tie.Need-slice_bounds-rise-end
 array-borrow-prefix-rise c = omega arith
 
-slice-aggregate-watch-all-4 : tie.Need-slice-aggregate-watch-all-4
+slice-aggregate-watch-all-4 : tie.Need-slice_bounds-watch_all-end-4
 slice-aggregate-watch-all-4 c = sym (length-take-le _ _ (omega arith))
 
-mul-drop : tie.Need-overflow-mul-drop
+mul-drop : tie.Need-overflow_mul-drop
 mul-drop c = omega arith
 
-array-borrow-prefix-drop : tie.Need-array-borrow-prefix-drop
+array-borrow-prefix-drop : tie.Need-slice_bounds-drop-end
 array-borrow-prefix-drop c = omega arith
 
-slice-aggregate-watch-all-5 : tie.Need-slice-aggregate-watch-all-5
+slice-aggregate-watch-all-5 : tie.Need-slice_bounds-watch_all-end-5
 slice-aggregate-watch-all-5 c = sym (length-take-le _ _ (omega arith))
 
-array-borrow-prefix-alive : tie.Need-array-borrow-prefix-alive
+array-borrow-prefix-alive : tie.Need-slice_bounds-alive-end
 array-borrow-prefix-alive c = omega arith
 
-slice-aggregate-watch-all-6 : tie.Need-slice-aggregate-watch-all-6
+slice-aggregate-watch-all-6 : tie.Need-slice_bounds-watch_all-end-6
 slice-aggregate-watch-all-6 c = sym (length-take-le _ _ (omega arith))
 
-array-borrow-prefix-alive-hops : tie.Need-array-borrow-prefix-alive-hops
+array-borrow-prefix-alive-hops : tie.Need-slice_bounds-alive_hops-end
 array-borrow-prefix-alive-hops c = omega arith
 
-slice-aggregate-watch-all-7 : tie.Need-slice-aggregate-watch-all-7
+slice-aggregate-watch-all-7 : tie.Need-slice_bounds-watch_all-end-7
 slice-aggregate-watch-all-7 c = sym (length-take-le _ _ (omega arith))
 
-array-borrow-prefix-events : tie.Need-array-borrow-prefix-events
+array-borrow-prefix-events : tie.Need-slice_bounds-events-end
 array-borrow-prefix-events c = omega arith
 
-slice-aggregate-watch-all-8 : tie.Need-slice-aggregate-watch-all-8
+slice-aggregate-watch-all-8 : tie.Need-slice_bounds-watch_all-end-8
 slice-aggregate-watch-all-8 c = sym (length-take-le _ _ (omega arith))
 
-array-borrow-prefix-rises : tie.Need-array-borrow-prefix-rises
+array-borrow-prefix-rises : tie.Need-slice_bounds-rises-end
 array-borrow-prefix-rises c = omega arith
 
-slice-aggregate-watch-all-9 : tie.Need-slice-aggregate-watch-all-9
+slice-aggregate-watch-all-9 : tie.Need-slice_bounds-watch_all-end-9
 slice-aggregate-watch-all-9 c = sym (length-take-le _ _ (omega arith))
 
-watch-all-requires : tie.Need-watch-all-requires
+watch-all-requires : tie.Need-watch_all-requires
 watch-all-requires c κs = (
   fifteen _ _ _ (sym (slice-aggregate-watch-all-2 c.before.before.before.before.before.before.before)) (sym (slice-aggregate-watch-all-6 c.before.before.before)),
   fifteen _ _ _ (sym (slice-aggregate-watch-all-3 c.before.before.before.before.before.before)) (sym (slice-aggregate-watch-all-6 c.before.before.before)),
@@ -96,23 +96,23 @@ watch-all-requires c κs = (
   fifteen _ _ _ (sym (slice-aggregate-watch-all-5 c.before.before.before.before)) (sym (slice-aggregate-watch-all-6 c.before.before.before)),
 )
 
-same_length : tie.Need-same-length
-same_length c = c.before.before.before.before.before.before.before.before.before.before.before.before.before.before.before.before.bank.given
+same_length : tie.Need-shape_of-bank
+same_length c = c.before.before.before.before.before.before.before.before.before.before.before.before.before.before.before.before.bank-1.given
 
-same-length-2 : tie.Need-same-length-2
-same-length-2 c = c.before.before.before.before.before.before.before.before.before.before.before.before.before.before.bank-f.given
+same-length-2 : tie.Need-shape_of-bank_f
+same-length-2 c = c.before.before.before.before.before.before.before.before.before.before.before.before.before.before.bank_f-1.given
 
-same-length-3 : tie.Need-same-length-3
-same-length-3 c = c.before.before.before.before.before.before.before.before.before.before.before.before.gate.given
+same-length-3 : tie.Need-shape_of-gate
+same-length-3 c = c.before.before.before.before.before.before.before.before.before.before.before.before.gate-1.given
 
-same-length-4 : tie.Need-same-length-4
-same-length-4 c = c.before.before.before.before.before.before.before.before.before.before.gate-f.given
+same-length-4 : tie.Need-shape_of-gate_f
+same-length-4 c = c.before.before.before.before.before.before.before.before.before.before.gate_f-1.given
 
 returns : tie.Need-returns
 returns c = search rules
 
-pub watch-runs-spec : {M : Type 1} → statement M
-watch-runs-spec =
+pub watch_runs_spec : {M : Type 1} → statement M
+watch_runs_spec =
     tie.close
     (tie.spec
     wide-requires
