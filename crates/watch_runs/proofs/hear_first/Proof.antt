@@ -26,22 +26,22 @@ slice-aggregate-hear-2 : tie.Need-slice_bounds-hear-end-2
 slice-aggregate-hear-2 c = search rules
 
 slice-aggregate-hear-3 : tie.Need-slice_bounds-hear-end-3
-slice-aggregate-hear-3 c = sym (length-take-le _ _ (first _ _ _ (omega (arith, c.before.before.before.before.before.before.before.before.before.before.if-hold-eq0.false)) c.before.before.before.before.before.before.before.before.before.before.before.before.before.before.before.before.before.before.before.before.requires.0))
+slice-aggregate-hear-3 c = sym (length-take-le _ _ (first _ _ _ (omega (arith, c.before.before.before.before.before.before.before.before.before.if-hold-eq0.false)) c.before.before.before.before.before.before.before.before.before.before.before.before.before.before.before.before.before.before.before.requires.0))
 
 slice-aggregate-hear-4 : tie.Need-slice_bounds-hear-end-4
-slice-aggregate-hear-4 c = sym (length-take-le _ _ (first _ _ _ (omega (arith, c.before.before.before.before.before.before.before.before.before.before.before.if-hold-eq0.false)) c.before.before.before.before.before.before.before.before.before.before.before.before.before.before.before.before.before.before.before.before.before.requires.1))
+slice-aggregate-hear-4 c = sym (length-take-le _ _ (first _ _ _ (omega (arith, c.before.before.before.before.before.before.before.before.before.if-hold-eq0.false)) c.before.before.before.before.before.before.before.before.before.before.before.before.before.before.before.before.before.before.before.requires.1))
 
 slice-relend-prefix-hear : tie.Need-slice_bounds-hear-end-5
-slice-relend-prefix-hear c = first _ _ _ (omega (arith, c.before.before.before.before.before.before.before.before.before.before.before.if-hold-eq0.false)) c.before.before.before.before.before.before.before.before.before.before.before.before.before.before.before.before.before.before.before.before.before.requires.2
+slice-relend-prefix-hear c = first _ _ _ (omega (arith, c.before.before.before.before.before.before.before.before.before.if-hold-eq0.false)) c.before.before.before.before.before.before.before.before.before.before.before.before.before.before.before.before.before.before.before.requires.2
 
 slice-aggregate-hear-5 : tie.Need-slice_bounds-hear-end-6
-slice-aggregate-hear-5 c = sym (length-take-le _ _ (first _ _ _ (omega (arith, c.before.before.before.before.before.before.before.before.before.before.before.before.if-hold-eq0.false)) c.before.before.before.before.before.before.before.before.before.before.before.before.before.before.before.before.before.before.before.before.before.before.requires.2))
+slice-aggregate-hear-5 c = sym (length-take-le _ _ (first _ _ _ (omega (arith, c.before.before.before.before.before.before.before.before.before.before.if-hold-eq0.false)) c.before.before.before.before.before.before.before.before.before.before.before.before.before.before.before.before.before.before.before.before.requires.2))
 
 slice-relend-prefix-hear-2 : tie.Need-slice_bounds-hear-end-7
-slice-relend-prefix-hear-2 c = first _ _ _ (omega (arith, c.before.before.before.before.before.before.before.before.before.before.before.before.if-hold-eq0.false)) c.before.before.before.before.before.before.before.before.before.before.before.before.before.before.before.before.before.before.before.before.before.before.requires.3
+slice-relend-prefix-hear-2 c = first _ _ _ (omega (arith, c.before.before.before.before.before.before.before.before.before.before.if-hold-eq0.false)) c.before.before.before.before.before.before.before.before.before.before.before.before.before.before.before.before.before.before.before.before.requires.3
 
 slice-aggregate-hear-6 : tie.Need-slice_bounds-hear-end-8
-slice-aggregate-hear-6 c = sym (length-take-le _ _ (first _ _ _ (omega (arith, c.before.before.before.before.before.before.before.before.before.before.before.before.before.if-hold-eq0.false)) c.before.before.before.before.before.before.before.before.before.before.before.before.before.before.before.before.before.before.before.before.before.before.before.requires.3))
+slice-aggregate-hear-6 c = sym (length-take-le _ _ (first _ _ _ (omega (arith, c.before.before.before.before.before.before.before.before.before.before.before.if-hold-eq0.false)) c.before.before.before.before.before.before.before.before.before.before.before.before.before.before.before.before.before.before.before.before.before.requires.3))
 
 hear-requires : tie.Need-hear-requires
 hear-requires c κs = search rules

@@ -27,11 +27,11 @@ more : (c : tie.In-loop-i invariant-loop decreases-loop) → c.before.loop-i.i <
 more c = omega (arith, c.loop-i-test.true, c.before.before.least-count.ensures.1)
 
 -- and its places lie within the lists
-fits : (c : tie.In-loop-i invariant-loop decreases-loop) → (len : ℕ) → len ≡ length (start c.before).args.alive_1.now * length (start c.before).args.hold.now
-    → c.before.loop-i.at + length (start c.before).args.alive_1.now ≤ len
+fits : (c : tie.In-loop-i invariant-loop decreases-loop) → (len : ℕ) → len ≡ length (start c.before).args.alive.now * length (start c.before).args.hold.now
+    → c.before.loop-i.at + length (start c.before).args.alive.now ≤ len
 fits c len e = let l = c.before in
     let s = start l in
-    omega (arith, e, l.loop-i.invariant.0, row (length s.args.alive_1.now) l.loop-i.i (length s.args.hold.now) (more c))
+    omega (arith, e, l.loop-i.invariant.0, row (length s.args.alive.now) l.loop-i.i (length s.args.hold.now) (more c))
 
 hop-bytes-requires : tie.Need-hop_bytes-size-requires invariant-loop decreases-loop
 hop-bytes-requires c κs = search rules
@@ -70,7 +70,7 @@ put-db-requires : tie.Need-put_db-requires invariant-loop decreases-loop
 put-db-requires c κs = search rules
 
 shared-slice-read-started-after : tie.Need-bounds-hold-i-in-loop-i invariant-loop decreases-loop
-shared-slice-read-started-after c = more c.before.before.before.before.before.before.before.before.before.before.before.before
+shared-slice-read-started-after c = more c.before.before.before.before.before.before.before.before.before.before.before
 
 started-after-requires : tie.Need-started_after-on-requires invariant-loop decreases-loop
 started-after-requires c κs = search rules
@@ -124,9 +124,9 @@ loop-less c = omega (arith, c.before.before.before.before.before.before.before.b
 
 loop-again : tie.Need-loop-i-preserved invariant-loop decreases-loop
 loop-again c = let l = c.before.before.before.before.before.before.before.before.before.before.before.before.before.before.before.before.before.before.before.before.before.before.before.before.before.before.before.before.before.before.before.before.before.before in (
-  ap (λ (a : ℕ). a + length (start l).args.alive_1.now) l.loop-i.invariant.0 ∙ sym (next (length (start l).args.alive_1.now) l.loop-i.i),
+  ap (λ (a : ℕ). a + length (start l).args.alive.now) l.loop-i.invariant.0 ∙ sym (next (length (start l).args.alive.now) l.loop-i.i),
   omega (arith, c.before.before.before.before.before.before.before.before.before.before.before.before.before.before.before.before.before.before.before.before.before.before.before.before.before.before.before.before.before.before.before.before.before.loop-i-test.true),
-  c.before.before.before.before.before.before.before.before.before.before.before.before.before.before.before.before.before.before.before.before.before.before.before.gate_f-1.given ∙ l.loop-i.invariant.2,
+  c.before.before.before.before.before.before.before.before.before.before.before.before.before.before.before.before.before.before.before.before.before.before.before.before.gate_f-1.given ∙ l.loop-i.invariant.2,
   c.before.before.before.before.before.before.before.before.before.before.before.before.before.before.before.before.before.before.before.before.before.before.before.before.before.before.before.before.smooth-1.given ∙ l.loop-i.invariant.3,
   c.before.before.before.before.before.before.before.before.alive-1.given ∙ l.loop-i.invariant.4,
   c.before.before.before.before.before.before.alive_hops-1.given ∙ l.loop-i.invariant.5,

@@ -33,83 +33,83 @@ sub-watch-next : tie.Need-slice_bounds-watch_next-count invariant-loop decreases
 sub-watch-next c = c.before.before.before.before.least-at.ensures.1
 
 part-watch-next-start : tie.Need-slice_bounds-watch_next-start invariant-loop decreases-loop
-part-watch-next-start c = omega (arith, c.before.before.before.before.before.least-at.ensures.1)
+part-watch-next-start c = omega (arith, c.before.before.before.before.least-at.ensures.1)
 
 part-watch-next-end : tie.Need-slice_bounds-watch_next-end invariant-loop decreases-loop
-part-watch-next-end c = omega (arith, c.before.before.before.before.before.before.before.before.before.read_on-have.ensures, c.before.before.before.before.before.before.before.before.bytes-1.given)
+part-watch-next-end c = omega (arith, c.before.before.before.before.before.before.before.before.read_on-have.ensures, c.before.before.before.before.before.before.before.bytes-1.given)
 
 watch-next-requires : tie.Need-watch_next-place-requires invariant-loop decreases-loop
 watch-next-requires c κs = (
-  still _ _ _ _ _ _ c.before.before.before.before.before.before.before.before.before.before.before.before.before.before.before.before.before.before.before.before.before.before.loop-turns.invariant.5 c.before.before.before.before.before.before.before.before.before.before.before.before.before.before.before.before.before.before.before.before.before.before.before.before.before.before.before.before.before.before.before.before.before.before.before.before.before.before.requires.0 c.before.before.before.before.before.before.before.before.before.before.before.before.before.before.before.before.before.before.before.before.before.before.loop-turns.invariant.9 refl,
-  still _ _ _ _ _ _ c.before.before.before.before.before.before.before.before.before.before.before.before.before.before.before.before.before.before.before.before.before.before.loop-turns.invariant.6 c.before.before.before.before.before.before.before.before.before.before.before.before.before.before.before.before.before.before.before.before.before.before.before.before.before.before.before.before.before.before.before.before.before.before.before.before.before.before.requires.1 c.before.before.before.before.before.before.before.before.before.before.before.before.before.before.before.before.before.before.before.before.before.before.loop-turns.invariant.9 refl,
-  still _ _ _ _ _ _ c.before.before.before.before.before.before.before.before.before.before.before.before.before.before.before.before.before.before.before.before.before.before.loop-turns.invariant.7 c.before.before.before.before.before.before.before.before.before.before.before.before.before.before.before.before.before.before.before.before.before.before.before.before.before.before.before.before.before.before.before.before.before.before.before.before.before.before.requires.2 c.before.before.before.before.before.before.before.before.before.before.before.before.before.before.before.before.before.before.before.before.before.before.loop-turns.invariant.9 refl,
-  still _ _ _ _ _ _ c.before.before.before.before.before.before.before.before.before.before.before.before.before.before.before.before.before.before.before.before.before.before.loop-turns.invariant.8 c.before.before.before.before.before.before.before.before.before.before.before.before.before.before.before.before.before.before.before.before.before.before.before.before.before.before.before.before.before.before.before.before.before.before.before.before.before.before.requires.3 c.before.before.before.before.before.before.before.before.before.before.before.before.before.before.before.before.before.before.before.before.before.before.loop-turns.invariant.9 refl,
+  still _ _ _ _ _ _ c.before.before.before.before.before.before.before.before.before.before.before.before.before.before.before.before.before.before.before.before.before.loop-turns.invariant.5 c.before.before.before.before.before.before.before.before.before.before.before.before.before.before.before.before.before.before.before.before.before.before.before.before.before.before.before.before.before.before.before.before.before.before.before.before.before.requires.0 c.before.before.before.before.before.before.before.before.before.before.before.before.before.before.before.before.before.before.before.before.before.loop-turns.invariant.9 refl,
+  still _ _ _ _ _ _ c.before.before.before.before.before.before.before.before.before.before.before.before.before.before.before.before.before.before.before.before.before.loop-turns.invariant.6 c.before.before.before.before.before.before.before.before.before.before.before.before.before.before.before.before.before.before.before.before.before.before.before.before.before.before.before.before.before.before.before.before.before.before.before.before.before.requires.1 c.before.before.before.before.before.before.before.before.before.before.before.before.before.before.before.before.before.before.before.before.before.loop-turns.invariant.9 refl,
+  still _ _ _ _ _ _ c.before.before.before.before.before.before.before.before.before.before.before.before.before.before.before.before.before.before.before.before.before.loop-turns.invariant.7 c.before.before.before.before.before.before.before.before.before.before.before.before.before.before.before.before.before.before.before.before.before.before.before.before.before.before.before.before.before.before.before.before.before.before.before.before.before.requires.2 c.before.before.before.before.before.before.before.before.before.before.before.before.before.before.before.before.before.before.before.before.before.loop-turns.invariant.9 refl,
+  still _ _ _ _ _ _ c.before.before.before.before.before.before.before.before.before.before.before.before.before.before.before.before.before.before.before.before.before.loop-turns.invariant.8 c.before.before.before.before.before.before.before.before.before.before.before.before.before.before.before.before.before.before.before.before.before.before.before.before.before.before.before.before.before.before.before.before.before.before.before.before.before.requires.3 c.before.before.before.before.before.before.before.before.before.before.before.before.before.before.before.before.before.before.before.before.before.loop-turns.invariant.9 refl,
 )
 
 sub-turns : tie.Need-overflow_sub-turns invariant-loop decreases-loop
-sub-turns c = omega (arith, c.before.before.before.before.before.before.before.before.before.before.before.before.before.before.before.before.before.before.before.before.before.before.before.before.before.before.before.before.before.before.before.before.before.before.before.before.before.before.before.before.before.before.before.before.before.before.loop-turns-test.true)
+sub-turns c = omega (arith, c.before.before.before.before.before.before.before.before.before.before.before.before.before.before.before.before.before.before.before.before.before.before.before.before.before.before.before.before.before.before.before.before.before.before.before.before.before.before.before.before.before.before.before.before.before.loop-turns-test.true)
 
 loop-less : tie.Need-loop-turns-smaller invariant-loop decreases-loop
-loop-less c = omega (arith, c.before.before.before.before.before.before.before.before.before.before.before.before.before.before.before.before.before.before.before.before.before.before.before.before.before.before.before.before.before.before.before.before.before.before.before.before.before.before.before.before.before.before.before.before.before.before.loop-turns-test.true)
+loop-less c = omega (arith, c.before.before.before.before.before.before.before.before.before.before.before.before.before.before.before.before.before.before.before.before.before.before.before.before.before.before.before.before.before.before.before.before.before.before.before.before.before.before.before.before.before.before.before.before.before.loop-turns-test.true)
 
 loop-again : tie.Need-loop-turns-preserved invariant-loop decreases-loop
 loop-again c = (
-  c.before.before.before.before.before.before.before.before.before.before.before.before.before.before.before.before.before.before.before.before.before.before.before.bank-1.given ∙ c.before.before.before.before.before.before.before.before.before.before.before.before.before.before.before.before.before.before.before.before.before.before.before.before.before.before.before.before.before.before.before.before.before.before.before.before.before.before.before.before.before.before.before.before.before.before.before.loop-turns.invariant.0,
-  c.before.before.before.before.before.before.before.before.before.before.before.before.before.before.before.before.before.before.before.before.before.bank_f-1.given ∙ c.before.before.before.before.before.before.before.before.before.before.before.before.before.before.before.before.before.before.before.before.before.before.before.before.before.before.before.before.before.before.before.before.before.before.before.before.before.before.before.before.before.before.before.before.before.before.before.loop-turns.invariant.1,
-  c.before.before.before.before.before.before.before.before.before.before.before.before.before.before.before.before.before.before.before.gate-1.given ∙ c.before.before.before.before.before.before.before.before.before.before.before.before.before.before.before.before.before.before.before.before.before.before.before.before.before.before.before.before.before.before.before.before.before.before.before.before.before.before.before.before.before.before.before.before.before.before.before.loop-turns.invariant.2,
-  c.before.before.before.before.before.before.before.before.before.before.before.before.before.before.before.before.before.gate_f-1.given ∙ c.before.before.before.before.before.before.before.before.before.before.before.before.before.before.before.before.before.before.before.before.before.before.before.before.before.before.before.before.before.before.before.before.before.before.before.before.before.before.before.before.before.before.before.before.before.before.before.loop-turns.invariant.3,
-  c.before.before.before.before.before.before.before.before.before.before.before.before.before.before.before.before.before.before.before.before.before.before.before.before.before.before.before.before.before.before.before.before.before.before.before.before.before.before.before.before.before.before.bytes-1.given ∙ c.before.before.before.before.before.before.before.before.before.before.before.before.before.before.before.before.before.before.before.before.before.before.before.before.before.before.before.before.before.before.before.before.before.before.before.before.before.before.before.before.before.before.before.before.before.before.before.loop-turns.invariant.4,
-  c.before.before.before.before.before.before.before.before.before.before.before.before.before.before.before.db-1.given ∙ c.before.before.before.before.before.before.before.before.before.before.before.before.before.before.before.before.before.before.before.before.before.before.before.before.before.before.before.before.before.before.before.before.before.before.before.before.before.before.before.before.before.before.before.before.before.before.before.loop-turns.invariant.5,
-  c.before.before.before.before.before.before.before.before.before.before.before.before.before.power-1.given ∙ c.before.before.before.before.before.before.before.before.before.before.before.before.before.before.before.before.before.before.before.before.before.before.before.before.before.before.before.before.before.before.before.before.before.before.before.before.before.before.before.before.before.before.before.before.before.before.before.loop-turns.invariant.6,
-  c.before.before.before.before.before.before.before.before.before.before.before.rise-1.given ∙ c.before.before.before.before.before.before.before.before.before.before.before.before.before.before.before.before.before.before.before.before.before.before.before.before.before.before.before.before.before.before.before.before.before.before.before.before.before.before.before.before.before.before.before.before.before.before.before.loop-turns.invariant.7,
-  c.before.before.before.before.before.before.before.before.before.drop-1.given ∙ c.before.before.before.before.before.before.before.before.before.before.before.before.before.before.before.before.before.before.before.before.before.before.before.before.before.before.before.before.before.before.before.before.before.before.before.before.before.before.before.before.before.before.before.before.before.before.before.loop-turns.invariant.8,
-  c.before.before.before.before.before.before.before.alive-1.given ∙ c.before.before.before.before.before.before.before.before.before.before.before.before.before.before.before.before.before.before.before.before.before.before.before.before.before.before.before.before.before.before.before.before.before.before.before.before.before.before.before.before.before.before.before.before.before.before.before.loop-turns.invariant.9,
-  c.before.before.before.before.before.alive_hops-1.given ∙ c.before.before.before.before.before.before.before.before.before.before.before.before.before.before.before.before.before.before.before.before.before.before.before.before.before.before.before.before.before.before.before.before.before.before.before.before.before.before.before.before.before.before.before.before.before.before.before.loop-turns.invariant.10,
-  c.before.before.before.events-1.given ∙ c.before.before.before.before.before.before.before.before.before.before.before.before.before.before.before.before.before.before.before.before.before.before.before.before.before.before.before.before.before.before.before.before.before.before.before.before.before.before.before.before.before.before.before.before.before.before.before.loop-turns.invariant.11,
-  c.before.rises-1.given ∙ c.before.before.before.before.before.before.before.before.before.before.before.before.before.before.before.before.before.before.before.before.before.before.before.before.before.before.before.before.before.before.before.before.before.before.before.before.before.before.before.before.before.before.before.before.before.before.before.loop-turns.invariant.12,
+  c.before.before.before.before.before.before.before.before.before.before.before.before.before.before.before.before.before.before.before.before.before.before.before.bank-1.given ∙ c.before.before.before.before.before.before.before.before.before.before.before.before.before.before.before.before.before.before.before.before.before.before.before.before.before.before.before.before.before.before.before.before.before.before.before.before.before.before.before.before.before.before.before.before.before.before.loop-turns.invariant.0,
+  c.before.before.before.before.before.before.before.before.before.before.before.before.before.before.before.before.before.before.before.before.before.bank_f-1.given ∙ c.before.before.before.before.before.before.before.before.before.before.before.before.before.before.before.before.before.before.before.before.before.before.before.before.before.before.before.before.before.before.before.before.before.before.before.before.before.before.before.before.before.before.before.before.before.before.loop-turns.invariant.1,
+  c.before.before.before.before.before.before.before.before.before.before.before.before.before.before.before.before.before.before.before.gate-1.given ∙ c.before.before.before.before.before.before.before.before.before.before.before.before.before.before.before.before.before.before.before.before.before.before.before.before.before.before.before.before.before.before.before.before.before.before.before.before.before.before.before.before.before.before.before.before.before.before.loop-turns.invariant.2,
+  c.before.before.before.before.before.before.before.before.before.before.before.before.before.before.before.before.before.gate_f-1.given ∙ c.before.before.before.before.before.before.before.before.before.before.before.before.before.before.before.before.before.before.before.before.before.before.before.before.before.before.before.before.before.before.before.before.before.before.before.before.before.before.before.before.before.before.before.before.before.before.loop-turns.invariant.3,
+  c.before.before.before.before.before.before.before.before.before.before.before.before.before.before.before.before.before.before.before.before.before.before.before.before.before.before.before.before.before.before.before.before.before.before.before.before.before.before.before.before.before.bytes-1.given ∙ c.before.before.before.before.before.before.before.before.before.before.before.before.before.before.before.before.before.before.before.before.before.before.before.before.before.before.before.before.before.before.before.before.before.before.before.before.before.before.before.before.before.before.before.before.before.before.loop-turns.invariant.4,
+  c.before.before.before.before.before.before.before.before.before.before.before.before.before.before.before.db-1.given ∙ c.before.before.before.before.before.before.before.before.before.before.before.before.before.before.before.before.before.before.before.before.before.before.before.before.before.before.before.before.before.before.before.before.before.before.before.before.before.before.before.before.before.before.before.before.before.before.loop-turns.invariant.5,
+  c.before.before.before.before.before.before.before.before.before.before.before.before.before.power-1.given ∙ c.before.before.before.before.before.before.before.before.before.before.before.before.before.before.before.before.before.before.before.before.before.before.before.before.before.before.before.before.before.before.before.before.before.before.before.before.before.before.before.before.before.before.before.before.before.before.loop-turns.invariant.6,
+  c.before.before.before.before.before.before.before.before.before.before.before.rise-1.given ∙ c.before.before.before.before.before.before.before.before.before.before.before.before.before.before.before.before.before.before.before.before.before.before.before.before.before.before.before.before.before.before.before.before.before.before.before.before.before.before.before.before.before.before.before.before.before.before.loop-turns.invariant.7,
+  c.before.before.before.before.before.before.before.before.before.drop-1.given ∙ c.before.before.before.before.before.before.before.before.before.before.before.before.before.before.before.before.before.before.before.before.before.before.before.before.before.before.before.before.before.before.before.before.before.before.before.before.before.before.before.before.before.before.before.before.before.before.loop-turns.invariant.8,
+  c.before.before.before.before.before.before.before.alive-1.given ∙ c.before.before.before.before.before.before.before.before.before.before.before.before.before.before.before.before.before.before.before.before.before.before.before.before.before.before.before.before.before.before.before.before.before.before.before.before.before.before.before.before.before.before.before.before.before.before.loop-turns.invariant.9,
+  c.before.before.before.before.before.alive_hops-1.given ∙ c.before.before.before.before.before.before.before.before.before.before.before.before.before.before.before.before.before.before.before.before.before.before.before.before.before.before.before.before.before.before.before.before.before.before.before.before.before.before.before.before.before.before.before.before.before.before.loop-turns.invariant.10,
+  c.before.before.before.events-1.given ∙ c.before.before.before.before.before.before.before.before.before.before.before.before.before.before.before.before.before.before.before.before.before.before.before.before.before.before.before.before.before.before.before.before.before.before.before.before.before.before.before.before.before.before.before.before.before.before.loop-turns.invariant.11,
+  c.before.rises-1.given ∙ c.before.before.before.before.before.before.before.before.before.before.before.before.before.before.before.before.before.before.before.before.before.before.before.before.before.before.before.before.before.before.before.before.before.before.before.before.before.before.before.before.before.before.before.before.before.before.loop-turns.invariant.12,
 )
 
 print-tail-requires : tie.Need-print_tail-requires invariant-loop decreases-loop
 print-tail-requires c κs = search rules
 
 same_length : tie.Need-shape_of-bank invariant-loop decreases-loop
-same_length c = c.before.before.before.before.before.before.before.before.before.loop-turns.invariant.0
+same_length c = c.before.before.before.before.before.before.loop-turns.invariant.0
 
 same-length-2 : tie.Need-shape_of-bank_f invariant-loop decreases-loop
-same-length-2 c = c.before.before.before.before.before.before.before.before.before.loop-turns.invariant.1
+same-length-2 c = c.before.before.before.before.before.before.loop-turns.invariant.1
 
 same-length-3 : tie.Need-shape_of-gate invariant-loop decreases-loop
-same-length-3 c = c.before.before.before.before.before.before.before.before.before.loop-turns.invariant.2
+same-length-3 c = c.before.before.before.before.before.before.loop-turns.invariant.2
 
 same-length-4 : tie.Need-shape_of-gate_f invariant-loop decreases-loop
-same-length-4 c = c.before.before.before.before.before.before.before.before.before.loop-turns.invariant.3
+same-length-4 c = c.before.before.before.before.before.before.loop-turns.invariant.3
 
 same-length-5 : tie.Need-shape_of-bytes invariant-loop decreases-loop
-same-length-5 c = c.before.before.before.before.before.before.before.before.before.loop-turns.invariant.4
+same-length-5 c = c.before.before.before.before.before.before.loop-turns.invariant.4
 
 same-length-6 : tie.Need-shape_of-db invariant-loop decreases-loop
-same-length-6 c = c.before.before.before.before.before.before.before.before.before.loop-turns.invariant.5
+same-length-6 c = c.before.before.before.before.before.before.loop-turns.invariant.5
 
 same-length-7 : tie.Need-shape_of-power invariant-loop decreases-loop
-same-length-7 c = c.before.before.before.before.before.before.before.before.before.loop-turns.invariant.6
+same-length-7 c = c.before.before.before.before.before.before.loop-turns.invariant.6
 
 same-length-8 : tie.Need-shape_of-rise invariant-loop decreases-loop
-same-length-8 c = c.before.before.before.before.before.before.before.before.before.loop-turns.invariant.7
+same-length-8 c = c.before.before.before.before.before.before.loop-turns.invariant.7
 
 same-length-9 : tie.Need-shape_of-drop invariant-loop decreases-loop
-same-length-9 c = c.before.before.before.before.before.before.before.before.before.loop-turns.invariant.8
+same-length-9 c = c.before.before.before.before.before.before.loop-turns.invariant.8
 
 same-length-10 : tie.Need-shape_of-alive invariant-loop decreases-loop
-same-length-10 c = c.before.before.before.before.before.before.before.before.before.loop-turns.invariant.9
+same-length-10 c = c.before.before.before.before.before.before.loop-turns.invariant.9
 
 same-length-11 : tie.Need-shape_of-alive_hops invariant-loop decreases-loop
-same-length-11 c = c.before.before.before.before.before.before.before.before.before.loop-turns.invariant.10
+same-length-11 c = c.before.before.before.before.before.before.loop-turns.invariant.10
 
 same-length-12 : tie.Need-shape_of-events invariant-loop decreases-loop
-same-length-12 c = c.before.before.before.before.before.before.before.before.before.loop-turns.invariant.11
+same-length-12 c = c.before.before.before.before.before.before.loop-turns.invariant.11
 
 same-length-13 : tie.Need-shape_of-rises invariant-loop decreases-loop
-same-length-13 c = c.before.before.before.before.before.before.before.before.before.loop-turns.invariant.12
+same-length-13 c = c.before.before.before.before.before.before.loop-turns.invariant.12
 
 returns : tie.Need-returns invariant-loop decreases-loop
 returns c = search rules
