@@ -1,6 +1,6 @@
 -- The lengths of the lists of a batch: so many hops of so many channels. Assumes nothing.
 use mathlib.Core.Path.{◌≡◌, sym, ap, ap₂, ◌∙◌}
-use Prim.Native.Nat.{ℕ, ◌+◌, ◌*◌, ◌<◌, ◌≤◌, min}
+use Prim.Native.Nat.{ℕ, ◌*◌, ◌<◌, ◌≤◌, min}
 use native.Mathlib.Nat.{mul-zero, mul_comm, mul-le-mul_left}
 use native.Mathlib.Omega.{arith}
 use Rattle.laws.proofs.Lists.{row}

@@ -1,5 +1,7 @@
 // The hops of a recording a batch at a time: read, received as a run, and then told and counted one by one. No store of the worst floor of late
 // (R-6) is kept beside runs: where one is asked for, an empty one is lent.
+#![tactic(auto)]
+
 ghost use Rattle.std.specs.Prelude.{◌≡◌, ◌*◌, ◌<◌, ◌≤◌, length};
 ghost use Rattle.watch_recording.specs.Recording.{hop_bytes};
 

@@ -1,4 +1,6 @@
 // The hops of a recording or a log one after another, by single calls: each read, heard, told and counted.
+#![tactic(auto)]
+
 use laws::{least, wide};
 use streams::Source;
 use watch_follow::follow;

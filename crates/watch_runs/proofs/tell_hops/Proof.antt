@@ -11,12 +11,12 @@ use Rattle.watch_runs.proofs.tell_hops.Statement.{statement}
 use Rattle.watch_runs.proofs.tell_hops.Tie as tie
 
 abbrev invariant-loop : tie.invariant-loop-i
-invariant-loop s n hops started bank bank-f gate gate-f₀ hold db rise drop smooth₀ alive₀ alive-hops₀ events₀ rises₀ k size count next₀ shown₀ on₀ at₀ i₀ none none-f gate-f smooth alive alive-hops events rises next shown on at i =
+invariant-loop s n hops started bank bank-f gate gate-f₀ hold db rise drop smooth₀ alive₀ alive-hops₀ events₀ rises₀ k size count next₀ shown₀ on₀ at₀ i₀ gate-f smooth alive alive-hops events rises next shown on at i =
     (at ≡ k * i) × (i ≤ count) × (length gate-f ≡ length gate-f₀) × (length smooth ≡ length smooth₀) × (length alive ≡ length alive₀) × (length alive-hops ≡ length alive-hops₀)
     × (length events ≡ length events₀) × (length rises ≡ length rises₀)
 
 abbrev decreases-loop : tie.decreases-loop-i
-decreases-loop s n hops started bank bank-f gate gate-f₀ hold db rise drop smooth₀ alive₀ alive-hops₀ events₀ rises₀ k size count next₀ shown₀ on₀ at₀ i₀ none none-f gate-f smooth alive alive-hops events rises next shown on at i =
+decreases-loop s n hops started bank bank-f gate gate-f₀ hold db rise drop smooth₀ alive₀ alive-hops₀ events₀ rises₀ k size count next₀ shown₀ on₀ at₀ i₀ gate-f smooth alive alive-hops events rises next shown on at i =
     count - i
 
 abbrev start : tie.At-loop-i invariant-loop decreases-loop → tie.Start invariant-loop decreases-loop
@@ -44,14 +44,14 @@ loop-holds c = (sym (mul-zero _), omega arith, refl, refl, refl, refl, refl, ref
 
 add-e : tie.Need-overflow_add-e invariant-loop decreases-loop
 add-e c = let c' = c in
-    omega (arith, fits c' _ (start c'.before).requires.0, (start c'.before).good.1.1.1.1.1.1.1.1.1.1.1.0)
+    omega (arith, fits c' _ (start c'.before).requires.0, (start c'.before).well_formed.1.1.1.1.1.1.1.1.1.1.1.0)
 
 shared-slice-read-smooth-hop : tie.Need-bounds-hold-i invariant-loop decreases-loop
 shared-slice-read-smooth-hop c = more c.before
 
 mul-smooth-hop : tie.Need-offset_bounds-db-at invariant-loop decreases-loop
 mul-smooth-hop c = let c' = c.before.before in
-    omega (arith, fits c' _ (start c'.before).requires.0, (start c'.before).good.1.1.1.1.1.1.1.1.1.1.1.0)
+    omega (arith, fits c' _ (start c'.before).requires.0, (start c'.before).well_formed.1.1.1.1.1.1.1.1.1.1.1.0)
 
 sub-smooth-hop : tie.Need-slice_bounds-smooth_hop-count invariant-loop decreases-loop
 sub-smooth-hop c = omega arith
@@ -61,7 +61,7 @@ part-smooth-hop-start c = omega arith
 
 part-smooth-hop-end : tie.Need-slice_bounds-smooth_hop-end invariant-loop decreases-loop
 part-smooth-hop-end c = let c' = c.before.before in
-    omega (arith, fits c' _ (start c'.before).requires.0, (start c'.before).good.1.1.1.1.1.1.1.1.1.1.1.0)
+    omega (arith, fits c' _ (start c'.before).requires.0, (start c'.before).well_formed.1.1.1.1.1.1.1.1.1.1.1.0)
 
 smooth-hop-requires : tie.Need-smooth_hop-requires invariant-loop decreases-loop
 smooth-hop-requires c κs = search rules
@@ -77,7 +77,7 @@ started-after-requires c κs = search rules
 
 mul-take-hop : tie.Need-offset_bounds-db-at-in-loop-i invariant-loop decreases-loop
 mul-take-hop c = let c' = c.before.before.before.before.before.before.before.before.before.before.before.before.before.before.before.before in
-    omega (arith, fits c' _ (start c'.before).requires.0, (start c'.before).good.1.1.1.1.1.1.1.1.1.1.1.0)
+    omega (arith, fits c' _ (start c'.before).requires.0, (start c'.before).well_formed.1.1.1.1.1.1.1.1.1.1.1.0)
 
 sub-take-hop : tie.Need-slice_bounds-take_hop-count invariant-loop decreases-loop
 sub-take-hop c = omega arith
@@ -87,7 +87,7 @@ part-take-hop-start c = omega arith
 
 part-take-hop-end : tie.Need-slice_bounds-take_hop-end-in-loop-i-2 invariant-loop decreases-loop
 part-take-hop-end c = let c' = c.before.before.before.before.before.before.before.before.before.before.before.before.before.before.before.before in
-    omega (arith, fits c' _ (start c'.before).requires.0, (start c'.before).good.1.1.1.1.1.1.1.1.1.1.1.0)
+    omega (arith, fits c' _ (start c'.before).requires.0, (start c'.before).well_formed.1.1.1.1.1.1.1.1.1.1.1.0)
 
 sub-take-hop-2 : tie.Need-slice_bounds-take_hop-count-in-loop-i invariant-loop decreases-loop
 sub-take-hop-2 c = omega arith
@@ -97,7 +97,7 @@ part-take-hop-start-2 c = omega arith
 
 part-take-hop-end-2 : tie.Need-slice_bounds-take_hop-end-in-loop-i-3 invariant-loop decreases-loop
 part-take-hop-end-2 c = let c' = c.before.before.before.before.before.before.before.before.before.before.before.before.before.before.before.before.before in
-    omega (arith, fits c' _ (start c'.before).requires.1, (start c'.before).good.1.1.1.1.1.1.1.1.1.1.1.1.0)
+    omega (arith, fits c' _ (start c'.before).requires.1, (start c'.before).well_formed.1.1.1.1.1.1.1.1.1.1.1.1.0)
 
 sub-take-hop-3 : tie.Need-slice_bounds-take_hop-count-in-loop-i-2 invariant-loop decreases-loop
 sub-take-hop-3 c = omega arith
@@ -107,7 +107,7 @@ part-take-hop-start-3 c = omega arith
 
 part-take-hop-end-3 : tie.Need-slice_bounds-take_hop-end-in-loop-i-4 invariant-loop decreases-loop
 part-take-hop-end-3 c = let c' = c.before.before.before.before.before.before.before.before.before.before.before.before.before.before.before.before.before.before in
-    omega (arith, fits c' _ (start c'.before).requires.2, (start c'.before).good.1.1.1.1.1.1.1.1.1.1.1.1.1.0)
+    omega (arith, fits c' _ (start c'.before).requires.2, (start c'.before).well_formed.1.1.1.1.1.1.1.1.1.1.1.1.1.0)
 
 take-hop-requires : tie.Need-take_hop-next-requires invariant-loop decreases-loop
 take-hop-requires c κs = search rules
@@ -117,7 +117,7 @@ explanation-before-requires c κs = search rules
 
 add-i : tie.Need-overflow_add-i invariant-loop decreases-loop
 add-i c = let c' = c.before.before.before.before.before.before.before.before.before.before.before.before.before.before.before.before.before.before.before.before.before.before.before.before.before.before.before.before.before.before.before.before.before in
-    omega (arith, more c', (start c'.before).good.1.1.1.1.1.1.1.1.1.1.0)
+    omega (arith, more c', (start c'.before).well_formed.1.1.1.1.1.1.1.1.1.1.0)
 
 loop-less : tie.Need-loop-i-smaller invariant-loop decreases-loop
 loop-less c = omega (arith, c.before.before.before.before.before.before.before.before.before.before.before.before.before.before.before.before.before.before.before.before.before.before.before.before.before.before.before.before.before.before.before.before.before.loop-i-test.true)

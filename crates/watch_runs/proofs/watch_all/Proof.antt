@@ -8,11 +8,11 @@ use Rattle.watch_runs.proofs.watch_all.Statement.{statement}
 use Rattle.watch_runs.proofs.watch_all.Tie as tie
 
 abbrev invariant-loop : tie.invariant-loop-turns
-invariant-loop fd name s n bank₀ bank-f₀ gate₀ gate-f₀ bytes₀ db₀ power₀ rise₀ drop₀ alive₀ alive-hops₀ events₀ rises₀ place₀ have₀ turns₀ none none-f bank bank-f gate gate-f bytes db power rise drop alive alive-hops events rises place have turns =
+invariant-loop fd name s n bank₀ bank-f₀ gate₀ gate-f₀ bytes₀ db₀ power₀ rise₀ drop₀ alive₀ alive-hops₀ events₀ rises₀ place₀ have₀ turns₀ bank bank-f gate gate-f bytes db power rise drop alive alive-hops events rises place have turns =
     (length bank ≡ length bank₀) × (length bank-f ≡ length bank-f₀) × (length gate ≡ length gate₀) × (length gate-f ≡ length gate-f₀) × (length bytes ≡ length bytes₀) × (length db ≡ length db₀) × (length power ≡ length power₀) × (length rise ≡ length rise₀) × (length drop ≡ length drop₀) × (length alive ≡ length alive₀) × (length alive-hops ≡ length alive-hops₀) × (length events ≡ length events₀) × (length rises ≡ length rises₀)
 
 abbrev decreases-loop : tie.decreases-loop-turns
-decreases-loop fd name s n bank₀ bank-f₀ gate₀ gate-f₀ bytes₀ db₀ power₀ rise₀ drop₀ alive₀ alive-hops₀ events₀ rises₀ place₀ have₀ turns₀ none none-f bank bank-f gate gate-f bytes db power rise drop alive alive-hops events rises place have turns = turns
+decreases-loop fd name s n bank₀ bank-f₀ gate₀ gate-f₀ bytes₀ db₀ power₀ rise₀ drop₀ alive₀ alive-hops₀ events₀ rises₀ place₀ have₀ turns₀ bank bank-f gate gate-f bytes db power rise drop alive alive-hops events rises place have turns = turns
 
 first-place-requires : tie.Need-first_place-place-requires invariant-loop decreases-loop
 first-place-requires c κs = search rules

@@ -17,7 +17,7 @@ least-requires : tie.Need-least-hops-requires
 least-requires c κs = search rules
 
 mul-long : tie.Need-overflow_mul-long
-mul-long c = omega (arith, firsts _ _ _ _ c.least-hops.ensures.1 c.before.before.before.before.before.before.before.before.before.before.before.before.before.before.before.before.before.requires.0, c.before.before.before.before.before.before.before.before.before.before.before.before.before.before.before.before.before.well-formed.1.1.1.1.1.1.1.1.1.1.0)
+mul-long c = omega (arith, firsts _ _ _ _ c.least-hops.ensures.1 c.before.before.before.before.before.before.before.before.before.before.before.before.before.before.before.before.before.requires.0, c.before.before.before.before.before.before.before.before.before.before.before.before.before.before.before.before.before.well_formed.1.1.1.1.1.1.1.1.1.1.0)
 
 array-borrow-prefix-hold : tie.Need-slice_bounds-hold-end
 array-borrow-prefix-hold c = omega (arith, c.before.before.before.before.least-hops.ensures.1)
