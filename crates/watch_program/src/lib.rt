@@ -1,4 +1,6 @@
 // The program `watch`: which channels of a recording or a log are alive. `watch --help` says how it is used.
+#![tactic(auto)]
+
 mod hops;
 mod stores_of;
 
