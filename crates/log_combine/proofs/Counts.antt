@@ -37,6 +37,10 @@ begins log db power e f =
       long = omega (arith, ap (λ (r : Reading). length r.1) z, mul-zero (low_two log 0));
     }
 
+-- what the reader said, and which answer it was
+pub told : (a b : LogRead) (d p : List ℕ) (x : Reading) → ◌≡◌ {A = Reading} (a, d, p) x → a ≡ b → ◌≡◌ {A = Reading} x (b, d, p)
+told a b d p x e f = sym e ∙ ap (λ (y : LogRead). (y, d, p)) f
+
 -- a hop that was read takes a byte, and lies in the log
 pub onto : (log : List ℕ) (at : ℕ) (db power : List ℕ) (next : ℕ) (d p : List ℕ) → read_hop log at db power ≡ (R.Next next, d, p) → (at < next) × (next ≤ length log)
 unfolding pair_at

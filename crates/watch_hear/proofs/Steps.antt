@@ -4,15 +4,31 @@ use mathlib.Core.Bool.{Bool, true, false}
 use mathlib.Core.List.{List}
 use Prim.Native.Nat.{ℕ, zero, suc}
 use lib.Ieee.{Float}
-use Rattle.model.specs.Bank.{hop}
+use Rattle.model.specs.Bank.{Hop as Bank-as-Hop, hop}
+use Rattle.model.specs.Calls.{bank_update_call}
 use Rattle.model.specs.GateCalls.{GateHop, gate_update_call, gate_hold_call}
-use Rattle.model.specs.WorstCalls.{Answered, update_if}
+use Rattle.model.specs.WorstCalls.{Answered, worst_update, update_if}
 use Rattle.watch_recording.specs.declared.Step.{Step}
 use Rattle.watch_recording.specs.declared.Step.TheVariants.{End as Step-as-End, Cut as Step-as-Cut, BadFlag as Step-as-BadFlag, Refused as Step-as-Refused, Hop}
 use Rattle.watch_hear.specs.declared.Heard.{Heard}
-use Rattle.watch_hear.specs.declared.Heard.TheVariants.{End, Cut, BadFlag, Refused}
+use Rattle.watch_hear.specs.declared.Heard.TheVariants.{End, Cut, BadFlag, Refused, Taken}
 use Rattle.watch_hear.specs.Judged.{Gated, Judged, gate_judged, beside, after, judged}
 use Rattle.watch_hear.specs.Heard.{answer_of, answered, heard_of}
+
+pub refusal : (size r : ℕ) → (r ≡ 0 → ⊥) → Refused r ≡ answer_of size r
+refusal size zero z = absurd (z refl)
+refusal size (suc r) z = refl
+
+pub accepted : (size r : ℕ) → r ≡ 0 → Taken size ≡ answer_of size r
+accepted size r z = ap (answer_of size) (sym z)
+
+module _ (bu : List ℕ) (bf : List Float) (wu : List ℕ) (wf : List Float) (h : Bank-as-Hop) where
+  pub carried : (c : Bool) (a : Answered) → c ≡ true → a ≡ worst_update bu bf wu wf h → a ≡ update_if c bu bf wu wf h
+  carried c a t e = rw t e
+
+  pub not_carried : (c : Bool) (x : ℕ) (u : List ℕ) (f : List Float) → c ≡ false → (x, u, f) ≡ bank_update_call bu bf h
+      → (x, u, f, wu, wf) ≡ update_if c bu bf wu wf h
+  not_carried c x u f t e = rw t (ap (λ (a : ℕ × List ℕ × List Float). (a.0, a.1, a.2, wu, wf)) e)
 
 module _ (bu : List ℕ) (bf : List Float) (gu : List ℕ) (gf : List Float) (h : GateHop) (rise drop : List ℕ) where
   pub held : (b : Bool) (x : ℕ) (f' : List Float) (rise' drop' : List ℕ) → b ≡ true → (x, f', rise', drop') ≡ gate_hold_call bu bf gu gf rise drop
