@@ -4,8 +4,7 @@ ghost use Rattle.roles.specs.Rights.{log_combine, as_role};
 ghost use Rattle.combine_model.specs.Combined.{combined};
 ghost use Rattle.log_answers.specs.LogAnswers.{write_answered};
 
-#[unsafe(no_mangle)]
-pub extern "C" fn wolfcloak_log_combine(
+pub fn wolfcloak_log_combine(
     role: u16,
     first: &[u8],
     second: &[u8],

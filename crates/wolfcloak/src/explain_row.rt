@@ -4,8 +4,7 @@ ghost use Rattle.roles.specs.Rights.{explain, as_role};
 ghost use Rattle.origins.specs.Origins.{explained};
 ghost use Rattle.answers.specs.Explained.{explained_answered};
 
-#[unsafe(no_mangle)]
-pub extern "C" fn wolfcloak_explain(
+pub fn wolfcloak_explain(
     role: u16,
     bank: &[u16],
     bank_f: &[f64],

@@ -5,15 +5,13 @@ ghost use Rattle.model.specs.GateCalls.{gate_f_len_for, gate_new_call, gate_upda
 ghost use Rattle.model.specs.Remake.{gate_remake_call};
 ghost use Rattle.answers.specs.Answers.{answered};
 
-#[unsafe(no_mangle)]
-pub extern "C" fn wolfcloak_gate_f_len(n: usize, lengths: &[u16]) -> usize
+pub fn wolfcloak_gate_f_len(n: usize, lengths: &[u16]) -> usize
     ensures { result ≡ gate_f_len_for n lengths.now }
 {
     gate_making::gate_f_len(n, lengths)
 }
 
-#[unsafe(no_mangle)]
-pub extern "C" fn wolfcloak_gate_new(
+pub fn wolfcloak_gate_new(
     role: u16,
     gate: &mut [u16],
     gate_f: &mut [f64],
@@ -31,8 +29,7 @@ pub extern "C" fn wolfcloak_gate_new(
     gate_making::gate_new(gate, gate_f, n, on, off, early, lengths)
 }
 
-#[unsafe(no_mangle)]
-pub extern "C" fn wolfcloak_gate_remake(
+pub fn wolfcloak_gate_remake(
     role: u16,
     gate: &mut [u16],
     gate_f: &mut [f64],
@@ -48,8 +45,7 @@ pub extern "C" fn wolfcloak_gate_remake(
     gate_remake::gate_remake(gate, gate_f, on, off, early)
 }
 
-#[unsafe(no_mangle)]
-pub extern "C" fn wolfcloak_gate_update(
+pub fn wolfcloak_gate_update(
     role: u16,
     bank: &[u16],
     bank_f: &[f64],
@@ -68,8 +64,7 @@ pub extern "C" fn wolfcloak_gate_update(
     gate::gate_update(bank, bank_f, gate, gate_f, power_db, power, rise, drop)
 }
 
-#[unsafe(no_mangle)]
-pub extern "C" fn wolfcloak_gate_hold(
+pub fn wolfcloak_gate_hold(
     role: u16,
     bank: &[u16],
     bank_f: &[f64],
@@ -86,8 +81,7 @@ pub extern "C" fn wolfcloak_gate_hold(
     gate::gate_hold(bank, bank_f, gate, gate_f, rise, drop)
 }
 
-#[unsafe(no_mangle)]
-pub extern "C" fn wolfcloak_smoothed_db(
+pub fn wolfcloak_smoothed_db(
     role: u16,
     gate: &[u16],
     gate_f: &[f64],
@@ -102,8 +96,7 @@ pub extern "C" fn wolfcloak_smoothed_db(
     answers::value_answer(gate_readings::smoothed_db(gate, gate_f, k), value)
 }
 
-#[unsafe(no_mangle)]
-pub extern "C" fn wolfcloak_ema_rise(
+pub fn wolfcloak_ema_rise(
     role: u16,
     bank: &[u16],
     bank_f: &[f64],

@@ -1,4 +1,4 @@
-// The C interface: each call of the bank, in gate_rows each of the gate, in log_rows each of the hop log, and in a file of its own what a request of document 02 adds, in a form that C can pass. An enum, a struct or a returned part is taken apart by `answers` and `log_answers`.
+// The C interface: each call of the bank, in gate_rows each of the gate, in log_rows each of the hop log, and in a file of its own what a request of document 02 adds, in a form that C can pass; `wolfcloak_c` exports them. An enum, a struct or a returned part is taken apart by `answers` and `log_answers`.
 #![tactic(auto)]
 
 pub mod antenna_rows;
@@ -18,27 +18,19 @@ ghost use Rattle.model.specs.Calls.{bank_len_for, bank_f_len_for, bank_new_call,
 ghost use Rattle.model.specs.Readings.{raw_reading, effective_reading, rise_reading, reference_reading, floors_reading};
 ghost use Rattle.answers.specs.Answers.{answered, floors_answered, ring_answered};
 
-#[unsafe(no_mangle)]
-pub extern "C" fn wolfcloak_bank_len(n: usize) -> usize
+pub fn wolfcloak_bank_len(n: usize) -> usize
     ensures { result ≡ bank_len_for n }
 {
     store_sizes::bank_len(n)
 }
 
-#[unsafe(no_mangle)]
-pub extern "C" fn wolfcloak_bank_f_len(n: usize) -> usize
+pub fn wolfcloak_bank_f_len(n: usize) -> usize
     ensures { result ≡ bank_f_len_for n }
 {
     store_sizes::bank_f_len(n)
 }
 
-#[unsafe(no_mangle)]
-pub extern "C" fn wolfcloak_bank_new(
-    role: u16,
-    bank: &mut [u16],
-    bank_f: &mut [f64],
-    n: usize,
-) -> u16
+pub fn wolfcloak_bank_new(role: u16, bank: &mut [u16], bank_f: &mut [f64], n: usize) -> u16
     ensures { (result, bank.new, bank_f.new) ≡ as_role bank_new role (λ r. (r, bank.old, bank_f.old)) (bank_new_call bank.old bank_f.old n) }
 {
     if !roles::may(roles::MAKING, role) {
@@ -47,8 +39,7 @@ pub extern "C" fn wolfcloak_bank_new(
     bank_making::bank_new(bank, bank_f, n)
 }
 
-#[unsafe(no_mangle)]
-pub extern "C" fn wolfcloak_bank_update(
+pub fn wolfcloak_bank_update(
     role: u16,
     bank: &mut [u16],
     bank_f: &mut [f64],
@@ -63,8 +54,7 @@ pub extern "C" fn wolfcloak_bank_update(
     bank::bank_update(bank, bank_f, power_db, power)
 }
 
-#[unsafe(no_mangle)]
-pub extern "C" fn wolfcloak_bank_update_holding_reference(
+pub fn wolfcloak_bank_update_holding_reference(
     role: u16,
     bank: &mut [u16],
     bank_f: &mut [f64],
@@ -80,8 +70,7 @@ pub extern "C" fn wolfcloak_bank_update_holding_reference(
     bank::bank_update_holding_reference(bank, bank_f, power_db, power, hold_reference)
 }
 
-#[unsafe(no_mangle)]
-pub extern "C" fn wolfcloak_channel_floor_db(
+pub fn wolfcloak_channel_floor_db(
     role: u16,
     bank: &[u16],
     bank_f: &[f64],
@@ -96,8 +85,7 @@ pub extern "C" fn wolfcloak_channel_floor_db(
     answers::value_answer(readings::channel_floor_db(bank, bank_f, k), value)
 }
 
-#[unsafe(no_mangle)]
-pub extern "C" fn wolfcloak_effective_floor_db(
+pub fn wolfcloak_effective_floor_db(
     role: u16,
     bank: &[u16],
     bank_f: &[f64],
@@ -112,8 +100,7 @@ pub extern "C" fn wolfcloak_effective_floor_db(
     answers::value_answer(readings::effective_floor_db(bank, bank_f, k), value)
 }
 
-#[unsafe(no_mangle)]
-pub extern "C" fn wolfcloak_rise_floor_db(
+pub fn wolfcloak_rise_floor_db(
     role: u16,
     bank: &[u16],
     bank_f: &[f64],
@@ -128,8 +115,7 @@ pub extern "C" fn wolfcloak_rise_floor_db(
     answers::value_answer(readings::rise_floor_db(bank, bank_f, k), value)
 }
 
-#[unsafe(no_mangle)]
-pub extern "C" fn wolfcloak_spectral_reference(
+pub fn wolfcloak_spectral_reference(
     role: u16,
     bank: &[u16],
     bank_f: &[f64],
@@ -144,8 +130,7 @@ pub extern "C" fn wolfcloak_spectral_reference(
     answers::value_answer(readings::spectral_reference(bank, bank_f, k), value)
 }
 
-#[unsafe(no_mangle)]
-pub extern "C" fn wolfcloak_floors(
+pub fn wolfcloak_floors(
     role: u16,
     bank: &[u16],
     bank_f: &[f64],
@@ -163,8 +148,7 @@ pub extern "C" fn wolfcloak_floors(
 }
 
 // Where in `bank` the ring of channel k lies.
-#[unsafe(no_mangle)]
-pub extern "C" fn wolfcloak_ring(
+pub fn wolfcloak_ring(
     role: u16,
     bank: &[u16],
     bank_f: &[f64],

@@ -7,15 +7,13 @@ ghost use Rattle.model.specs.MapCalls.{gate_update_map_call};
 ghost use Rattle.model.specs.WorstCalls.{worst_update};
 ghost use Rattle.model.specs.Decibels.{power_db, linear_hop, linear_gate_hop};
 
-#[unsafe(no_mangle)]
-pub extern "C" fn wolfcloak_power_db(power: f32) -> f64
+pub fn wolfcloak_power_db(power: f32) -> f64
     ensures { result ≡ power_db power }
 {
     decibels::power_db(power)
 }
 
-#[unsafe(no_mangle)]
-pub extern "C" fn wolfcloak_bank_update_linear(
+pub fn wolfcloak_bank_update_linear(
     role: u16,
     bank: &mut [u16],
     bank_f: &mut [f64],
@@ -30,8 +28,7 @@ pub extern "C" fn wolfcloak_bank_update_linear(
     bank_linear::bank_update_linear(bank, bank_f, power, hold_reference)
 }
 
-#[unsafe(no_mangle)]
-pub extern "C" fn wolfcloak_gate_update_linear(
+pub fn wolfcloak_gate_update_linear(
     role: u16,
     bank: &[u16],
     bank_f: &[f64],
@@ -49,8 +46,7 @@ pub extern "C" fn wolfcloak_gate_update_linear(
     gate_linear::gate_update_linear(bank, bank_f, gate, gate_f, power, rise, drop)
 }
 
-#[unsafe(no_mangle)]
-pub extern "C" fn wolfcloak_gate_update_linear_map(
+pub fn wolfcloak_gate_update_linear_map(
     role: u16,
     bank: &[u16],
     bank_f: &[f64],
@@ -69,8 +65,7 @@ pub extern "C" fn wolfcloak_gate_update_linear_map(
     gate_linear_map::gate_update_linear_map(bank, bank_f, gate, gate_f, map, power, rise, drop)
 }
 
-#[unsafe(no_mangle)]
-pub extern "C" fn wolfcloak_bank_update_linear_worst(
+pub fn wolfcloak_bank_update_linear_worst(
     role: u16,
     bank: &mut [u16],
     bank_f: &mut [f64],

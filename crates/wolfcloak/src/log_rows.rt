@@ -5,8 +5,7 @@ ghost use Rattle.log_model.specs.Format.{written};
 ghost use Rattle.log_model.specs.Read.{channels, read_hop};
 ghost use Rattle.log_answers.specs.LogAnswers.{channels_answered, write_answered, read_answered};
 
-#[unsafe(no_mangle)]
-pub extern "C" fn wolfcloak_log_write(
+pub fn wolfcloak_log_write(
     role: u16,
     n: usize,
     db_bits: &[u64],
@@ -22,8 +21,7 @@ pub extern "C" fn wolfcloak_log_write(
     log_answers::length_answer(log_write::log_write(n, db_bits, power_bits, log), len)
 }
 
-#[unsafe(no_mangle)]
-pub extern "C" fn wolfcloak_log_channels(role: u16, log: &[u8], n: &mut usize) -> u16
+pub fn wolfcloak_log_channels(role: u16, log: &[u8], n: &mut usize) -> u16
     ensures { (result, n.new) ≡ as_role log_channels role (λ r. (r, n.old)) (channels_answered n.old (channels log.now)) }
 {
     if !roles::may(roles::LOGGING, role) {
@@ -32,8 +30,7 @@ pub extern "C" fn wolfcloak_log_channels(role: u16, log: &[u8], n: &mut usize) -
     log_answers::channels_answer(log_read::log_channels(log), n)
 }
 
-#[unsafe(no_mangle)]
-pub extern "C" fn wolfcloak_log_read(
+pub fn wolfcloak_log_read(
     role: u16,
     log: &[u8],
     position: &mut usize,

@@ -3,15 +3,13 @@ ghost use Rattle.std.specs.Prelude.{◌≡◌};
 ghost use Rattle.roles.specs.Rights.{map_new, gate_update_map, gate_hold_map, map_read, map_write, map_wire, as_role};
 ghost use Rattle.model.specs.MapCalls.{map_len, map_new_call, map_read_call, map_write_call, map_wire_call, gate_update_map_call, gate_hold_map_call};
 
-#[unsafe(no_mangle)]
-pub extern "C" fn wolfcloak_map_len(n: usize) -> usize
+pub fn wolfcloak_map_len(n: usize) -> usize
     ensures { result ≡ map_len n }
 {
     map_store::map_len(n)
 }
 
-#[unsafe(no_mangle)]
-pub extern "C" fn wolfcloak_map_new(role: u16, gate: &[u16], gate_f: &[f64], map: &mut [u8]) -> u16
+pub fn wolfcloak_map_new(role: u16, gate: &[u16], gate_f: &[f64], map: &mut [u8]) -> u16
     ensures { (result, map.new) ≡ as_role map_new role (λ r. (r, map.old)) (map_new_call gate.now gate_f.now map.old) }
 {
     if !roles::may(roles::MAKING, role) {
@@ -20,8 +18,7 @@ pub extern "C" fn wolfcloak_map_new(role: u16, gate: &[u16], gate_f: &[f64], map
     registers::map_new(gate, gate_f, map)
 }
 
-#[unsafe(no_mangle)]
-pub extern "C" fn wolfcloak_gate_update_map(
+pub fn wolfcloak_gate_update_map(
     role: u16,
     bank: &[u16],
     bank_f: &[f64],
@@ -41,8 +38,7 @@ pub extern "C" fn wolfcloak_gate_update_map(
     gate_map::gate_update_map(bank, bank_f, gate, gate_f, map, power_db, power, rise, drop)
 }
 
-#[unsafe(no_mangle)]
-pub extern "C" fn wolfcloak_gate_hold_map(
+pub fn wolfcloak_gate_hold_map(
     role: u16,
     bank: &[u16],
     bank_f: &[f64],
@@ -60,8 +56,7 @@ pub extern "C" fn wolfcloak_gate_hold_map(
     gate_map::gate_hold_map(bank, bank_f, gate, gate_f, map, rise, drop)
 }
 
-#[unsafe(no_mangle)]
-pub extern "C" fn wolfcloak_map_read(
+pub fn wolfcloak_map_read(
     role: u16,
     gate: &[u16],
     gate_f: &[f64],
@@ -77,8 +72,7 @@ pub extern "C" fn wolfcloak_map_read(
     registers::map_read(gate, gate_f, map, address, value)
 }
 
-#[unsafe(no_mangle)]
-pub extern "C" fn wolfcloak_map_write(
+pub fn wolfcloak_map_write(
     role: u16,
     gate: &[u16],
     gate_f: &[f64],
@@ -94,14 +88,7 @@ pub extern "C" fn wolfcloak_map_write(
     registers::map_write(gate, gate_f, map, address, value)
 }
 
-#[unsafe(no_mangle)]
-pub extern "C" fn wolfcloak_map_wire(
-    role: u16,
-    gate: &[u16],
-    gate_f: &[f64],
-    map: &[u8],
-    up: &mut u8,
-) -> u16
+pub fn wolfcloak_map_wire(role: u16, gate: &[u16], gate_f: &[f64], map: &[u8], up: &mut u8) -> u16
     ensures { (result, up.new) ≡ as_role map_wire role (λ r. (r, up.old)) (map_wire_call gate.now gate_f.now map.now up.old) }
 {
     if !roles::may(roles::READING, role) {

@@ -3,8 +3,7 @@ ghost use Rattle.std.specs.Prelude.{◌≡◌};
 ghost use Rattle.roles.specs.Rights.{receive, as_role};
 ghost use Rattle.run_model.specs.Runs.{received};
 
-#[unsafe(no_mangle)]
-pub extern "C" fn wolfcloak_receive(
+pub fn wolfcloak_receive(
     role: u16,
     bank: &mut [u16],
     bank_f: &mut [f64],

@@ -1,0 +1,18 @@
+// The exports of antenna_rows.rt of `wolfcloak`.
+ghost use Rattle.std.specs.Prelude.{◌≡◌};
+ghost use Rattle.roles.specs.Rights.{log_combine, as_role};
+ghost use Rattle.combine_model.specs.Combined.{combined};
+ghost use Rattle.log_answers.specs.LogAnswers.{write_answered};
+
+#[unsafe(no_mangle)]
+pub extern "C" fn wolfcloak_log_combine(
+    role: u16,
+    first: &[u8],
+    second: &[u8],
+    log: &mut [u8],
+    len: &mut usize,
+) -> u16
+    ensures { (result, len.new, log.new) ≡ as_role log_combine role (λ r. (r, len.old, log.old)) (write_answered len.old (combined first.now second.now log.old)) }
+{
+    wolfcloak::antenna_rows::wolfcloak_log_combine(role, first, second, log, len)
+}

@@ -1,0 +1,95 @@
+// The exports of map_rows.rt of `wolfcloak`.
+ghost use Rattle.std.specs.Prelude.{◌≡◌};
+ghost use Rattle.roles.specs.Rights.{map_new, gate_update_map, gate_hold_map, map_read, map_write, map_wire, as_role};
+ghost use Rattle.model.specs.MapCalls.{map_len, map_new_call, map_read_call, map_write_call, map_wire_call, gate_update_map_call, gate_hold_map_call};
+
+#[unsafe(no_mangle)]
+pub extern "C" fn wolfcloak_map_len(n: usize) -> usize
+    ensures { result ≡ map_len n }
+{
+    wolfcloak::map_rows::wolfcloak_map_len(n)
+}
+
+#[unsafe(no_mangle)]
+pub extern "C" fn wolfcloak_map_new(role: u16, gate: &[u16], gate_f: &[f64], map: &mut [u8]) -> u16
+    ensures { (result, map.new) ≡ as_role map_new role (λ r. (r, map.old)) (map_new_call gate.now gate_f.now map.old) }
+{
+    wolfcloak::map_rows::wolfcloak_map_new(role, gate, gate_f, map)
+}
+
+#[unsafe(no_mangle)]
+pub extern "C" fn wolfcloak_gate_update_map(
+    role: u16,
+    bank: &[u16],
+    bank_f: &[f64],
+    gate: &mut [u16],
+    gate_f: &mut [f64],
+    map: &mut [u8],
+    power_db: &[f64],
+    power: &[f32],
+    rise: &mut [u8],
+    drop: &mut [u8],
+) -> u16
+    ensures { (result, gate.new, gate_f.new, map.new, rise.new, drop.new) ≡ as_role gate_update_map role (λ r. (r, gate.old, gate_f.old, map.old, rise.old, drop.old)) (gate_update_map_call bank.now bank_f.now gate.old gate_f.old map.old (record { db = power_db.now; power = power.now }) rise.old drop.old) }
+{
+    wolfcloak::map_rows::wolfcloak_gate_update_map(
+        role, bank, bank_f, gate, gate_f, map, power_db, power, rise, drop,
+    )
+}
+
+#[unsafe(no_mangle)]
+pub extern "C" fn wolfcloak_gate_hold_map(
+    role: u16,
+    bank: &[u16],
+    bank_f: &[f64],
+    gate: &[u16],
+    gate_f: &mut [f64],
+    map: &mut [u8],
+    rise: &mut [u8],
+    drop: &mut [u8],
+) -> u16
+    ensures { (result, gate_f.new, map.new, rise.new, drop.new) ≡ as_role gate_hold_map role (λ r. (r, gate_f.old, map.old, rise.old, drop.old)) (gate_hold_map_call bank.now bank_f.now gate.now gate_f.old map.old rise.old drop.old) }
+{
+    wolfcloak::map_rows::wolfcloak_gate_hold_map(role, bank, bank_f, gate, gate_f, map, rise, drop)
+}
+
+#[unsafe(no_mangle)]
+pub extern "C" fn wolfcloak_map_read(
+    role: u16,
+    gate: &[u16],
+    gate_f: &[f64],
+    map: &[u8],
+    address: usize,
+    value: &mut u8,
+) -> u16
+    ensures { (result, value.new) ≡ as_role map_read role (λ r. (r, value.old)) (map_read_call gate.now gate_f.now map.now address value.old) }
+{
+    wolfcloak::map_rows::wolfcloak_map_read(role, gate, gate_f, map, address, value)
+}
+
+#[unsafe(no_mangle)]
+pub extern "C" fn wolfcloak_map_write(
+    role: u16,
+    gate: &[u16],
+    gate_f: &[f64],
+    map: &mut [u8],
+    address: usize,
+    value: u8,
+) -> u16
+    ensures { (result, map.new) ≡ as_role map_write role (λ r. (r, map.old)) (map_write_call gate.now gate_f.now map.old address value) }
+{
+    wolfcloak::map_rows::wolfcloak_map_write(role, gate, gate_f, map, address, value)
+}
+
+#[unsafe(no_mangle)]
+pub extern "C" fn wolfcloak_map_wire(
+    role: u16,
+    gate: &[u16],
+    gate_f: &[f64],
+    map: &[u8],
+    up: &mut u8,
+) -> u16
+    ensures { (result, up.new) ≡ as_role map_wire role (λ r. (r, up.old)) (map_wire_call gate.now gate_f.now map.now up.old) }
+{
+    wolfcloak::map_rows::wolfcloak_map_wire(role, gate, gate_f, map, up)
+}
