@@ -1,70 +1,66 @@
-// The stored floors of a slow hop: what changes the f64 store after the pushes.
+// The stored floors of a slow hop: what changes the f64 store after the pushes. A turn of a loop reads and writes the same place of several lists, so it
+// goes by the number of the channel or block.
 #![tactic(auto)]
 
-ghost use Rattle.std.specs.Prelude.{◌≡◌, get_or};
+ghost use Rattle.std.specs.Prelude.{◌≡◌, ◌≤◌, ◌<◌, length};
 ghost use Rattle.model.specs.Bank.{raw_floors};
-ghost use Rattle.model.specs.Stores.{bank_floats, bank_of};
+ghost use Rattle.model.specs.Stores.{bank_floats, bank_len, bank_of, chan_part};
 ghost use Rattle.model.specs.GoodBank.{Ready};
 ghost use Rattle.bank_stages.specs.Steps.{raw_step, usable_step, block_step, rise_step};
 
-use model::layout::{BLOCK_CHANNELS, BLOCK_REST, CHANNEL_LEN};
+use model::layout::{BLOCK_CHANNELS, CHANNEL_LEN};
 
-pub fn raw_floors(bank_f: &mut [f64], bank: &[u16], n: usize)
-    requires { Ready bank.now bank_f.old × (n ≡ get_or bank.now 0 0) }
+// Channel k's part of the store of n channels.
+fn channel(bank: &[u16], n: usize, k: usize) -> &[u16; CHANNEL_LEN]
+    requires { (n ≤ 512) × (k < n) × (length bank.now ≡ bank_len n) }
+    ensures { result.now ≡ chan_part n bank.now k }
+{
+    let a = 3 + n.div_ceil(BLOCK_CHANNELS) + CHANNEL_LEN * k;
+    bank[a..a + CHANNEL_LEN].as_array().unwrap()
+}
+
+pub fn raw_floors(bank_f: &mut [f64], bank: &[u16])
+    requires { Ready bank.now bank_f.old }
     ensures { bank_f.new ≡ bank_floats (raw_step (bank_of bank.now bank_f.old)) }
 {
-    let base = 3 + (n + BLOCK_REST) / BLOCK_CHANNELS;
-    let mut k: usize = 0;
-    while k < n {
-        let a = base + CHANNEL_LEN * k;
-        let e = a + CHANNEL_LEN;
-        bank_f[k] = quartile::raw_floor(&bank[a..e]);
-        k += 1;
+    let n = usize::from(bank[0]);
+    for k in 0..n {
+        bank_f[k] = quartile::raw_floor(channel(bank, n, k));
     }
 }
 
-pub fn usable_floors(bank_f: &mut [f64], bank: &[u16], n: usize)
-    requires ready { Ready bank.now bank_f.old × (n ≡ get_or bank.now 0 0) }
+pub fn usable_floors(bank_f: &mut [f64], bank: &[u16])
+    requires ready { Ready bank.now bank_f.old }
     requires bank_f_value { (bank_of bank.now bank_f.old).raw ≡ raw_floors (bank_of bank.now bank_f.old).n (bank_of bank.now bank_f.old).chans }
     ensures { bank_f.new ≡ bank_floats (usable_step (bank_of bank.now bank_f.old)) }
 {
-    let base = 3 + (n + BLOCK_REST) / BLOCK_CHANNELS;
-    let mut k: usize = 0;
-    while k < n {
-        let a = base + CHANNEL_LEN * k;
-        let e = a + CHANNEL_LEN;
-        let raw = bank_f[k];
-        bank_f[n + k] = quartile::usable_floor(&bank[a..e], raw);
-        k += 1;
+    let n = usize::from(bank[0]);
+    for k in 0..n {
+        bank_f[n + k] = quartile::usable_floor(channel(bank, n, k), bank_f[k]);
     }
 }
 
-pub fn block_floors(bank_f: &mut [f64], bank: &[u16], n: usize)
-    requires { Ready bank.now bank_f.old × (n ≡ get_or bank.now 0 0) }
+pub fn block_floors(bank_f: &mut [f64], bank: &[u16])
+    requires { Ready bank.now bank_f.old }
     ensures { bank_f.new ≡ bank_floats (block_step (bank_of bank.now bank_f.old)) }
 {
-    let blocks = (n + BLOCK_REST) / BLOCK_CHANNELS;
+    let n = usize::from(bank[0]);
     let end = n + n;
-    let mut i: usize = 0;
-    while i < blocks {
+    for i in 0..n.div_ceil(BLOCK_CHANNELS) {
         let med = median::block_median(&bank_f[n..end], i);
         bank_f[4 * n + i] = med;
-        i += 1;
     }
 }
 
-pub fn rise_floors(bank_f: &mut [f64], bank: &[u16], n: usize)
-    requires { Ready bank.now bank_f.old × (n ≡ get_or bank.now 0 0) }
+pub fn rise_floors(bank_f: &mut [f64], bank: &[u16])
+    requires { Ready bank.now bank_f.old }
     ensures { bank_f.new ≡ bank_floats (rise_step (bank_of bank.now bank_f.old)) }
 {
-    let blocks = (n + BLOCK_REST) / BLOCK_CHANNELS;
-    let base = 3 + blocks;
-    let mut k: usize = 0;
-    while k < n {
+    let n = usize::from(bank[0]);
+    let blocks = n.div_ceil(BLOCK_CHANNELS);
+    for k in 0..n {
         let i = k / BLOCK_CHANNELS;
-        let a = base + CHANNEL_LEN * k;
-        let e = a + CHANNEL_LEN;
-        let since = ring::since(&bank[a..e]);
+        let since = ring::since(channel(bank, n, k));
         let floor = block::rise_floor(
             bank_f[n + k],
             bank_f[4 * n + i],
@@ -73,6 +69,5 @@ pub fn rise_floors(bank_f: &mut [f64], bank: &[u16], n: usize)
             bank_f[4 * n + blocks + i],
         );
         bank_f[3 * n + k] = floor;
-        k += 1;
     }
 }

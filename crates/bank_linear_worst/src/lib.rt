@@ -2,8 +2,11 @@
 #![tactic(auto)]
 
 ghost use Rattle.std.specs.Prelude.{◌≡◌};
+ghost use Rattle.refusals.specs.Numbers.{answer};
 ghost use Rattle.model.specs.WorstCalls.{worst_update};
 ghost use Rattle.model.specs.Decibels.{linear_hop};
+
+use refusals::Refusal;
 
 // One hop's linear power of each channel, whose dB is worked out here; then it is the update that carries the store.
 pub fn bank_update_linear_worst(
@@ -13,8 +16,8 @@ pub fn bank_update_linear_worst(
     worst_f: &mut [f64],
     power: &[f32],
     hold_reference: bool,
-) -> u16
-    ensures { (result, bank.new, bank_f.new, worst.new, worst_f.new) ≡ worst_update bank.old bank_f.old worst.old worst_f.old (linear_hop hold_reference power.now) }
+) -> Result<(), Refusal>
+    ensures { (answer result, bank.new, bank_f.new, worst.new, worst_f.new) ≡ worst_update bank.old bank_f.old worst.old worst_f.old (linear_hop hold_reference power.now) }
 {
     let n = power.len();
     if n > 512 {

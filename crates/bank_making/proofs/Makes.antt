@@ -1,41 +1,22 @@
 -- Laws on a fresh bank in its stores, for stores filled part by part. Assumes nothing.
 use mathlib.Core.Path.{◌≡◌, refl, sym, ap, ap₂, ◌∙◌}
 use mathlib.Core.List.{List, [], ◌∷◌, ◌++◌, append_assoc, append-nil, map}
-use Prim.Native.Nat.{ℕ, zero, suc, ◌+◌, ◌-◌, ◌*◌, ◌<◌}
+use Prim.Native.Nat.{ℕ, zero, suc, ◌+◌, ◌-◌, ◌*◌}
 use native.Mathlib.Nat.{mul-suc, mul-zero}
 use native.Mathlib.Omega.{arith}
-use lib.ListN.{length, drop, set, replicate, length-append, length-drop, length-replicate, replicate-append-replicate}
+use lib.ListN.{length, take, drop, set, replicate, length-append, length-drop, length-replicate, replicate-append-replicate}
 use lib.Ieee.{Float}
-use lib.Seq.{drop-length}
-use Rattle.laws.specs.Lists.{splice, tab_from, joined}
-use Rattle.laws.proofs.Lists.{splice-mid}
-use Rattle.laws.proofs.Tabs.{fill-turns}
+use Rattle.laws.specs.Lists.{part, splice, joined}
+use Rattle.laws.proofs.Lists.{splice-mid, length_part, length-splice}
+use Rattle.std.proofs.lemmas.List.{length-take-le}
 use Rattle.model.specs.Bank.{blocks, fresh_channel, fresh_bank}
 use Rattle.model.specs.Stores.{chan_u, bank_u16s, bank_floats, bank_len, bank_f_len}
 use Rattle.model.specs.Numbers.{f0}
 use Rattle.model.specs.Layout.{hist_min, bins, fresh_power, ring_len, channel_len}
-use Rattle.model.specs.Refusals.{make_refusal}
-use Rattle.model.specs.Calls.{leaves, bank_new_call}
-use Rattle.store_sizes.specs.Checks.{size_refusal}
 
--- ---- a loop that writes one value
+-- ---- one value again and again
 
 module _ {A : Type 0} where
-  tab_from-same : (i n : ℕ) (v : A) → tab_from i n (λ _. v) ≡ replicate n v
-  tab_from-same i zero v = refl
-  tab_from-same i (suc n) v = ap (λ (r : List A). v ∷ r) (tab_from-same (suc i) n v)
-
-  pub fill_more : (a k : ℕ) (l : List A) (v : A) → a + k < length l
-      → set (splice a k l (replicate k v)) (a + k) v ≡ splice a (k + 1) l (replicate (k + 1) v)
-  fill_more a k l v h =
-      ap (λ (r : List A). set (splice a k l r) (a + k) v) (sym (tab_from-same 0 k v))
-      ∙ fill-turns a k l (λ _. v) h
-      ∙ ap (λ (r : List A). splice a (k + 1) l r) (tab_from-same 0 (k + 1) v)
-
-  -- the whole list filled
-  pub fill-all : (l : List A) (v : A) → splice 0 (length l) l (replicate (length l) v) ≡ replicate (length l) v
-  fill-all l v = ap (λ (r : List A). replicate (length l) v ++ r) (drop-length l) ∙ append-nil (replicate (length l) v)
-
   map-replicate : {B : Type 0} (g : A → B) (n : ℕ) (x : A) → map g (replicate n x) ≡ replicate n (g x)
   map-replicate g zero x = refl
   map-replicate {B = B} g (suc n) x = ap (λ (r : List B). g x ∷ r) (map-replicate g n x)
@@ -134,17 +115,29 @@ fresh-f-store n b l s t u long e d₁ d₂ d₃ =
     ++ (replicate n hist_min ++ (replicate n fresh_power ++ (replicate n hist_min ++ (replicate k hist_min ++ replicate k f0)))))
     e
 
--- ---- making
-
-refused : (r : ℕ) (n : ℕ) (u : List ℕ) (f : List Float) → (r ≡ 0 → ⊥) → (r, u, f) ≡ leaves r (fresh_bank n) u f
-refused zero n u f h = absurd (h refl)
-refused (suc r) n u f h = refl
-
-module _ (u : List ℕ) (f : List Float) (n : ℕ) where
-  pub new-refused : (r : ℕ) → r ≡ size_refusal 1 (length u) (length f) n → (r ≡ 0 → ⊥) → (r, u, f) ≡ bank_new_call u f n
-  unfolding bank_new_call make_refusal
-  new-refused r e h = refused r n u f h ∙ ap (λ (k : ℕ). leaves k (fresh_bank n) u f) e
-
-  pub new-made : 0 ≡ size_refusal 1 (length u) (length f) n → (0, bank_u16s (fresh_bank n), bank_floats (fresh_bank n)) ≡ bank_new_call u f n
-  unfolding bank_new_call make_refusal
-  new-made e = ap (λ (k : ℕ). leaves k (fresh_bank n) u f) e
+-- the same, as the fills leave it of the parts that they are given
+pub fresh_floats : (n b : ℕ) (l x y z : List Float) → length l ≡ bank_f_len n → b ≡ blocks n
+    → let m = 4 * n + b in
+    let s = x ++ drop m l in
+    let t = splice (2 * n) (3 * n - 2 * n) s y in
+    x ≡ replicate (length (take m l)) hist_min
+    → y ≡ replicate (length (part (2 * n) (3 * n - 2 * n) s)) fresh_power
+    → z ≡ replicate (length (part m (length t - m) t)) f0
+    → splice m (length t - m) t z ≡ bank_floats (fresh_bank n)
+fresh_floats n b l x y z long e d₁ d₂ d₃ =
+    let m = 4 * n + b in
+    let s = x ++ drop m l in
+    let t = splice (2 * n) (3 * n - 2 * n) s y in
+    let x' : x ≡ replicate m hist_min = d₁ ∙ ap (λ (k : ℕ). replicate k hist_min) (length-take-le m l (omega arith)) in
+    let ls : length s ≡ length l =
+    ap (λ (r : List Float). length (r ++ drop m l)) x' ∙ simp (length-append, length-replicate, length-drop) (omega arith) in
+    let w : 3 * n - 2 * n ≡ n = omega arith in
+    let y' : y ≡ replicate n fresh_power =
+    d₂ ∙ ap (λ (k : ℕ). replicate k fresh_power) (ap (λ (k : ℕ). length (part (2 * n) k s)) w ∙ length_part (2 * n) n s (omega arith)) in
+    let t' : t ≡ splice (2 * n) n s (replicate n fresh_power) = ap (λ (k : ℕ). splice (2 * n) k s y) w ∙ ap (splice (2 * n) n s) y' in
+    let lt : length t ≡ length l =
+    ap length t' ∙ length-splice (2 * n) n s (replicate n fresh_power) (omega arith) (length-replicate n fresh_power) ∙ ls in
+    let r : length t - m ≡ b = omega arith in
+    let z' : z ≡ replicate b f0 = d₃ ∙ ap (λ (k : ℕ). replicate k f0) (ap (λ (k : ℕ). length (part m k t)) r ∙ length_part m b t (omega arith)) in
+    fresh-f-store n b l s t (splice m (length t - m) t z) long e (ap (λ (q : List Float). q ++ drop m l) x') t'
+    (ap (λ (k : ℕ). splice m k t z) r ∙ ap (splice m b t) z')

@@ -10,7 +10,7 @@ ghost use Rattle.model.specs.Sound.{Sound};
 ghost use Rattle.model.specs.GoodBank.{Ready};
 ghost use Rattle.bank_stages.specs.Steps.{Holds, seed_step, push_step};
 
-use model::layout::{BLOCK_CHANNELS, BLOCK_REST, CHANNEL_LEN};
+use model::layout::{BLOCK_CHANNELS, CHANNEL_LEN};
 
 // The channel at `a` takes the bin of p.
 fn push_at(bank: &mut [u16], a: usize, p: f64, quiet: bool)
@@ -19,8 +19,7 @@ fn push_at(bank: &mut [u16], a: usize, p: f64, quiet: bool)
     ensures { bank.new ≡ splice a channel_len bank.old (chan_u (push_in ring_len quiet (chan_of (part a channel_len bank.old)) (bin_of p))) }
 {
     let bin = ring::bin_index(p);
-    let e = a + CHANNEL_LEN;
-    ring::push(&mut bank[a..e], bin, quiet);
+    ring::push(&mut bank[a..a + CHANNEL_LEN], bin, quiet);
 }
 
 // Each channel takes the bin of its dB. Until its block has a seed push, an entry of bin 0 counts as lead.
@@ -28,13 +27,10 @@ pub fn push_all(bank: &mut [u16], bank_f: &[f64], power_db: &[f64])
     requires { Ready bank.old bank_f.now × (length power_db.now ≡ get_or bank.old 0 0) }
     ensures { bank.new ≡ bank_u16s (push_step power_db.now (bank_of bank.old bank_f.now)) }
 {
-    let n = power_db.len();
-    let base = 3 + (n + BLOCK_REST) / BLOCK_CHANNELS;
-    let mut k: usize = 0;
-    while k < n {
+    let base = 3 + power_db.len().div_ceil(BLOCK_CHANNELS);
+    for (k, p) in power_db.iter().enumerate() {
         let quiet = 0 == bank[3 + k / BLOCK_CHANNELS];
-        push_at(bank, base + CHANNEL_LEN * k, power_db[k], quiet);
-        k += 1;
+        push_at(bank, base + CHANNEL_LEN * k, *p, quiet);
     }
 }
 
@@ -44,7 +40,7 @@ pub fn take_seeds(bank: &mut [u16], bank_f: &mut [f64], power_db: &[f64])
     ensures { Holds (seed_step power_db.now (bank_of bank.old bank_f.old)) bank.new bank_f.new }
 {
     let n = power_db.len();
-    let blocks = (n + BLOCK_REST) / BLOCK_CHANNELS;
+    let blocks = n.div_ceil(BLOCK_CHANNELS);
     let base = 3 + blocks;
     let a = 4 * n + blocks;
     let e = a + blocks;

@@ -3,7 +3,7 @@ use mathlib.Core.Path.{◌≡◌, refl, sym, ap, ap₂, subst, ◌∙◌}
 use mathlib.Core.Bool.{Bool, true}
 use mathlib.Core.List.{List}
 use Prim.Native.Nat.{ℕ, zero, suc, ◌+◌, ◌-◌, ◌*◌, ◌<◌, ◌≤◌}
-use native.Mathlib.Nat.{zero-add, mul-zero, mul-add, mul-le-mul_left, mul-le-mul_right}
+use native.Mathlib.Nat.{zero-add, mul-add, mul-le-mul_left, mul-le-mul_right}
 use native.Mathlib.Omega.{arith}
 use native.Mathlib.Numerals.{add-one}
 use lib.Dec.{eqb, ltb}
@@ -24,15 +24,6 @@ use Rattle.bank_sixteens.specs.Rows.{chan_at, Filled, EightReady, EightSound, ce
 pub entry-is : (from : ℕ) (u : List ℕ) (k i : ℕ) → i < channel_len → get_or (chan_at from u k) i 0 ≡ get_or u (from + channel_len * k + i) 0
 entry-is from u k i l = get_d_part (from + channel_len * k) channel_len u i 0 l
 
--- what holds of each number below k and of k
-pub below_more : (P : ℕ → Type 0) (k : ℕ) → ((j : ℕ) → j < k → P j) → P k → (j : ℕ) → j < k + 1 → P j
-below_more P k h p j l =
-    by-test (eqb j k)
-    (λ e.
-    let d : k ≡ j = sym (eqb-true j k e) in
-    rw d at p)
-    (λ e. h j (omega (arith, eqb-false j k e)))
-
 -- ---- a row of entries
 
 -- one place of a list raised by w
@@ -49,9 +40,6 @@ raised w t p q h =
       ap (λ (v : Bool). w * one v) e,
     ))
     (λ e. omega (arith, get_or-set_other t p q (get_or t p 0 + w) 0 (eqb-false q p e), ap (λ (v : Bool). w * one v) e))
-
-abbrev pub CountAsks : ℕ → List ℕ → ℕ → ℕ → List ℕ → Type 0
-CountAsks from u i k t = (length t ≡ 4 * bins) × (get_or t (cell_of from u i k) 0 ≤ 30000000)
 
 module _ (w from : ℕ) (u : List ℕ) (i : ℕ) (bin : (k : ℕ) → k < 4 → get_or u (from + channel_len * k + i) 0 < bins) where
   abbrev x : ℕ → ℕ
@@ -74,10 +62,6 @@ module _ (w from : ℕ) (u : List ℕ) (i : ℕ) (bin : (k : ℕ) → k < 4 → 
       (λ e. eq-eqb (k * bins + b) (p k) (omega (arith, eqb-true b (x k) e)) ∙ sym e)
       (λ e. ne_eqb (k * bins + b) (p k) (λ d. eqb-false b (x k) e (omega arith)) ∙ sym e))
 
-  -- an entry of another channel leaves a channel's place
-  pub other-cell : (t : List ℕ) (j k : ℕ) → length t ≡ 4 * bins → j < 4 → k < 4 → (j ≡ k → ⊥) → get_or (raise w (p j) t) (p k) 0 ≡ get_or t (p k) 0
-  other-cell t j k h lj lk d = omega (arith, raised w t (p j) (p k) (omega (arith, bin j lj)), adds-other j k (x k) lj (bin k lk) d)
-
   module _ (t : List ℕ) (h : length t ≡ 4 * bins) where
     long : (j : ℕ) (s : List ℕ) → length s ≡ 4 * bins → length (raise w (p j) s) ≡ 4 * bins
     long j s e = simp length-set e
@@ -93,29 +77,6 @@ module _ (w from : ℕ) (u : List ℕ) (i : ℕ) (bin : (k : ℕ) → k < 4 → 
 
     pub row-long : length (row_counted w from u i t) ≡ 4 * bins
     row-long = long 3 t3 (long 2 t2 (long 1 t1 (long 0 t h)))
-
-    -- what the next entry's count asks of the tallies before it
-    module _ (le : (k : ℕ) → k < 4 → get_or t (p k) 0 ≤ 30000000) where
-      pub asks-second : CountAsks from u i 1 t1
-      asks-second = (long 0 t h, omega (arith, other-cell t 0 1 h (omega arith) (omega arith) (λ e. omega arith), le 1 (omega arith)))
-
-      pub asks-third : CountAsks from u i 2 t2
-      asks-third = (
-        long 1 t1 (long 0 t h),
-        omega (arith, other-cell t1 1 2 (long 0 t h) (omega arith) (omega arith) (λ e. omega arith), other-cell t 0 2 h (omega arith) (omega arith) (λ e. omega arith), le 2 (omega arith)),
-      )
-
-      pub asks-fourth : CountAsks from u i 3 t3
-      asks-fourth = (
-        long 2 t2 (long 1 t1 (long 0 t h)),
-        omega (
-          arith,
-          other-cell t2 2 3 (long 1 t1 (long 0 t h)) (omega arith) (omega arith) (λ e. omega arith),
-          other-cell t1 1 3 (long 0 t h) (omega arith) (omega arith) (λ e. omega arith),
-          other-cell t 0 3 h (omega arith) (omega arith) (λ e. omega arith),
-          le 3 (omega arith),
-        ),
-      )
 
     total : (q : ℕ) → get_or (row_counted w from u i t) q 0 ≡ get_or t q 0 + adds 0 q + adds 1 q + adds 2 q + adds 3 q
     total q =
@@ -139,15 +100,6 @@ module _ (w from : ℕ) (u : List ℕ) (i : ℕ) (bin : (k : ℕ) → k < 4 → 
     row-cell (suc (suc (suc (suc k)))) b lk lb = absurd (omega arith)
 
 -- ---- rows added
-
-pub added_none : (w from : ℕ) (u s : List ℕ) → length s ≡ 4 * bins → Added w 0 from u s s
-added_none w from u s h =
-    record {
-      long = h;
-      sums = λ k b lk lb.
-          let z : w * occ b (take 0 (chan_at from u k)) ≡ 0 = mul-zero w in
-          omega (arith, z);
-    }
 
 module _ (w i from : ℕ) (u s t : List ℕ) (room : from + 4 * channel_len ≤ length u) (r : Added w i from u s t) where
   pub added_more : i < ring_len → ((k : ℕ) → k < 4 → get_or u (from + channel_len * k + i) 0 < bins) → Added w (i + 1) from u s (row_counted w from u i t)
@@ -174,9 +126,6 @@ module _ (w i from : ℕ) (u s t : List ℕ) (room : from + 4 * channel_len ≤ 
       let l = chan_at from u k in
       let n : occ b (take i l) ≤ ring_len = omega (arith, occ-le b (take i l), length-take-le i l (omega (arith, length_part (from + channel_len * k) channel_len u (omega arith)))) in
       omega (arith, r.sums k b lk lb, f.few k b lk lb, mul-le-mul_left w n, mul-le-mul_right ring_len lw)
-
-pub added-at : {w i j from : ℕ} {u s t : List ℕ} → i ≡ j → Added w i from u s t → Added w j from u s t
-added-at {w} {i} {j} {from} {u} {s} {t} e r = rw e at r
 
 -- ---- tallies set back
 
@@ -234,9 +183,6 @@ module _ (b : ℕ) (t : List ℕ) (lb : b < bins) (h : length t ≡ 4 * bins) wh
 
 pub cleared-none : (t : List ℕ) → length t ≡ 4 * bins → ClearedTo 0 t t
 cleared-none t h = record { long = h; none = λ k b lk lb. absurd (omega arith); others = λ k b lk n lb. refl }
-
-pub cleared_at : {i j : ℕ} {s t : List ℕ} → i ≡ j → ClearedTo i s t → ClearedTo j s t
-cleared_at {i} {j} {s} {t} e r = rw e at r
 
 -- a row that is still there is borne out as it was
 pub row_same : (u : List ℕ) (first second : ℕ) (s t : List ℕ) (b : ℕ) → b < bins → ClearedTo b s t → row_borne_out u first second t b ≡ row_borne_out u first second s b
@@ -417,11 +363,6 @@ pub bin-behind : (from : ℕ) (u : List ℕ) → ((k i : ℕ) → k < 8 → i < 
 bin-behind from u h k i lk li =
     let e : from + channel_len * (k + 4) + i ≡ from + 4 * channel_len + channel_len * k + i = omega arith in
     subst (λ (a : ℕ). get_or u a 0 < bins) e (h (k + 4) i (omega arith) li)
-
--- eight channels are ready whose entries are no higher than what is below top
-pub ready_by : (n top from x : ℕ) (u : List ℕ) → x < top → ((k : ℕ) → k < 8 → Filled n (chan_at from u k))
-    → ((k i : ℕ) → k < 8 → i < ring_len → get_or u (from + channel_len * k + i) 0 ≤ x) → EightReady n top from u
-ready_by n top from x u lx f h = record { filled = f; low = λ k i lk li. omega (arith, h k i lk li) }
 
 -- ---- channels from the first on
 

@@ -21,57 +21,43 @@ const TALLIES_LEN: usize = 4 * BINS;
 // first stay below it.
 const SECOND: u32 = 65536;
 
-// A ring of one bin, as its first entry's count has it. Nothing is concluded from it but which way is the quicker.
-fn seems_of_one_bin(chan: &[u16]) -> bool
-    requires { length chan.now ≡ channel_len }
+// The k-th of the channels that begin at a place of the store.
+fn channel(bank: &[u16], from: usize, k: usize) -> &[u16; CHANNEL_LEN]
+    requires { (from ≤ 300000) × (k < 8) × (from + 8 * channel_len ≤ length bank.now) }
+    ensures { result.now ≡ chan_at from bank.now k }
 {
+    let a = from + CHANNEL_LEN * k;
+    bank[a..a + CHANNEL_LEN].as_array().unwrap()
+}
+
+// A ring of one bin, as its first entry's count has it. Nothing is concluded from it but which way is the quicker.
+fn seems_of_one_bin(chan: &[u16; CHANNEL_LEN]) -> bool {
     let first = chan[0];
-    if first >= BINS_U16 {
-        return false;
-    }
-    chan[COUNTS + first as usize] == RING_LEN_U16
+    first < BINS_U16 && chan[COUNTS + usize::from(first)] == RING_LEN_U16
 }
 
 // Silence, as each of eight has it: then each is told by the quicker test of a single channel. Where one of them has noise, all are counted at once.
 fn seems_silent(bank: &[u16], from: usize) -> bool
     requires { (from ≤ 300000) × (from + 8 * channel_len ≤ length bank.now) }
 {
-    let mut k: usize = 0;
-    while k < 8 {
-        let a = from + CHANNEL_LEN * k;
-        let e = a + CHANNEL_LEN;
-        if !seems_of_one_bin(&bank[a..e]) {
-            return false;
-        }
-        k += 1;
-    }
-    true
+    (0..8).all(|k| seems_of_one_bin(channel(bank, from, k)))
 }
 
 // Whether so many places of the ring are filled, and the fields are sound.
-fn is_filled(chan: &[u16], filled: u16) -> bool
-    requires { length chan.now ≡ channel_len }
+fn is_filled(chan: &[u16; CHANNEL_LEN], filled: u16) -> bool
     ensures { result ≡ true → Filled filled chan.now }
 {
-    let entries = chan[FILLED];
-    if entries != filled {
-        return false;
-    }
-    fields_sound(chan[NEXT], entries, chan[LEAD], chan[COUNTS])
+    chan[FILLED] == filled && fields_sound(chan[NEXT], filled, chan[LEAD], chan[COUNTS])
 }
 
 fn all_filled(bank: &[u16], from: usize, filled: u16) -> bool
     requires { (from ≤ 300000) × (from + 8 * channel_len ≤ length bank.now) }
     ensures { result ≡ true → (k : ℕ) → k < 8 → Filled filled (chan_at from bank.now k) }
 {
-    let mut k: usize = 0;
-    while k < 8 {
-        let a = from + CHANNEL_LEN * k;
-        let e = a + CHANNEL_LEN;
-        if !is_filled(&bank[a..e], filled) {
+    for k in 0..8 {
+        if !is_filled(channel(bank, from, k), filled) {
             return false;
         }
-        k += 1;
     }
     true
 }
@@ -84,33 +70,21 @@ fn entry(bank: &[u16], from: usize, i: usize, k: usize) -> u16
     bank[from + CHANNEL_LEN * k + i]
 }
 
-fn higher(a: u16, b: u16) -> u16
-    ensures { (a ≤ result) × (b ≤ result) }
-{
-    if a < b { b } else { a }
-}
-
 // Of the k-th channel and the next.
 fn higher_of_two(bank: &[u16], from: usize, i: usize, k: usize) -> u16
     requires { (from ≤ 300000) × (from + 8 * channel_len ≤ length bank.now) × (i < channel_len) × (k < 7) }
     ensures { (get_or bank.now (from + channel_len * k + i) 0 ≤ result) × (get_or bank.now (from + channel_len * (k + 1) + i) 0 ≤ result) }
 {
-    higher(entry(bank, from, i, k), entry(bank, from, i, k + 1))
+    entry(bank, from, i, k).max(entry(bank, from, i, k + 1))
 }
 
 fn highest_of_row(bank: &[u16], from: usize, i: usize) -> u16
     requires { (from ≤ 300000) × (from + 8 * channel_len ≤ length bank.now) × (i < channel_len) }
     ensures { (k : ℕ) → k < 8 → get_or bank.now (from + channel_len * k + i) 0 ≤ result }
 {
-    let a = higher(
-        higher_of_two(bank, from, i, 0),
-        higher_of_two(bank, from, i, 2),
-    );
-    let b = higher(
-        higher_of_two(bank, from, i, 4),
-        higher_of_two(bank, from, i, 6),
-    );
-    higher(a, b)
+    let a = higher_of_two(bank, from, i, 0).max(higher_of_two(bank, from, i, 2));
+    let b = higher_of_two(bank, from, i, 4).max(higher_of_two(bank, from, i, 6));
+    a.max(b)
 }
 
 // Nothing at these places of the eight channels is higher. A place of each in turn: eight loops would each have to put together what its wide
@@ -120,10 +94,8 @@ fn highest_between(bank: &[u16], from: usize, first: usize, end: usize) -> u16
     ensures { (k i : ℕ) → k < 8 → first ≤ i → i < end → get_or bank.now (from + channel_len * k + i) 0 ≤ result }
 {
     let mut highest: u16 = 0;
-    let mut i = first;
-    while i < end {
-        highest = higher(highest, highest_of_row(bank, from, i));
-        i += 1;
+    for i in first..end {
+        highest = highest.max(highest_of_row(bank, from, i));
     }
     highest
 }
@@ -134,8 +106,7 @@ fn count_in(t: &mut [u32; TALLIES_LEN], bank: &[u16], from: usize, i: usize, k: 
     requires t_len { (length t.old ≡ 4 * bins) × (get_or bank.now (from + channel_len * k + i) 0 < bins) × (get_or t.old (cell_of from bank.now i k) 0 ≤ 30000000) }
     ensures { t.new ≡ raise one (cell_of from bank.now i k) t.old }
 {
-    let at = k * BINS + entry(bank, from, i, k) as usize;
-    t[at] = t[at] + one;
+    t[k * BINS + usize::from(entry(bank, from, i, k))] += one;
 }
 
 // The i-th entry of each of four channels.
@@ -165,11 +136,9 @@ fn count_rows(
     ensures { Added one filled from bank.now t.old t.new × Added one filled (from + 4 * channel_len) bank.now v.old v.new }
 {
     let behind = from + 4 * CHANNEL_LEN;
-    let mut i: usize = 0;
-    while i < filled {
+    for i in 0..filled {
         count_row(t, bank, from, i, one);
         count_row(v, bank, behind, i, one);
-        i += 1;
     }
 }
 
@@ -177,7 +146,7 @@ fn count_rows(
 fn same(first: u16, second: u16, tallied: u32) -> bool
     ensures { result ≡ eqb (first + 65536 * second) tallied }
 {
-    first as u32 + SECOND * second as u32 == tallied
+    u32::from(first) + SECOND * u32::from(second) == tallied
 }
 
 // Whether the tally of bin b bears out the counts of the k-th of four channels at one place of the store and of the k-th at another.
@@ -239,11 +208,9 @@ fn four_borne_out(
     ensures { (result ≡ all_below top (row_borne_out bank.now first second t.old)) × ClearedTo top t.old t.new }
 {
     let mut all = true;
-    let mut b: usize = 0;
-    while b < top {
-        all = all & row_borne_out(bank, first, second, t, b);
+    for b in 0..top {
+        all &= row_borne_out(bank, first, second, t, b);
         clear_row(t, b);
-        b += 1;
     }
     all
 }
@@ -252,14 +219,10 @@ fn one_by_one(bank: &[u16], from: usize) -> bool
     requires { (from ≤ 300000) × (from + 8 * channel_len ≤ length bank.now) }
     ensures { result ≡ true → EightSound from bank.now }
 {
-    let mut k: usize = 0;
-    while k < 8 {
-        let a = from + CHANNEL_LEN * k;
-        let e = a + CHANNEL_LEN;
-        if !channel_sound(&bank[a..e]) {
+    for k in 0..8 {
+        if !channel_sound(channel(bank, from, k)) {
             return false;
         }
-        k += 1;
     }
     true
 }
@@ -304,7 +267,7 @@ fn above(bin: u16) -> usize
     requires { bin < bins }
     ensures { (bin < result) × (result ≤ bins) }
 {
-    (bin as usize / 16 + 1) * 16
+    (usize::from(bin) / 16 + 1) * 16
 }
 
 // Whether the two times eight are counted at once: their rings have as many entries, and not all of them are silent.
@@ -312,13 +275,9 @@ fn at_once(bank: &[u16], first: usize, second: usize, filled: u16) -> bool
     requires { (first ≤ 300000) × (first + 8 * channel_len ≤ length bank.now) × (second ≤ 300000) × (second + 8 * channel_len ≤ length bank.now) }
     ensures { result ≡ true → ((k : ℕ) → k < 8 → Filled filled (chan_at first bank.now k)) × ((k : ℕ) → k < 8 → Filled filled (chan_at second bank.now k)) }
 {
-    if seems_silent(bank, first) & seems_silent(bank, second) {
-        return false;
-    }
-    if !all_filled(bank, first, filled) {
-        return false;
-    }
-    all_filled(bank, second, filled)
+    !(seems_silent(bank, first) & seems_silent(bank, second))
+        && all_filled(bank, first, filled)
+        && all_filled(bank, second, filled)
 }
 
 // Whether the eight channels that begin at one place of the store and the eight at another are sound. The tallies are lent, and clear again behind it.
@@ -337,14 +296,15 @@ fn sixteen_sound(
     if !at_once(bank, first, second, filled) {
         return one_by_one(bank, first) & one_by_one(bank, second);
     }
-    let highest = higher(
-        highest_between(bank, first, 0, RING_LEN),
-        highest_between(bank, second, 0, RING_LEN),
-    );
+    let of_first = highest_between(bank, first, 0, RING_LEN);
+    let of_second = highest_between(bank, second, 0, RING_LEN);
+    let highest = of_first.max(of_second);
     if highest >= BINS_U16 {
         return false;
     }
-    counts_borne_out(bank, first, second, filled as usize, above(highest), t, v)
+    let entries = usize::from(filled);
+    let top = above(highest);
+    counts_borne_out(bank, first, second, entries, top, t, v)
 }
 
 // As many of n channels, from the first on, as are found sound so. The channels that begin at a place of the store are taken by sixteens; what is left
@@ -355,14 +315,15 @@ pub fn sound_sixteens(bank: &[u16], from: usize, n: usize) -> usize
 {
     let mut t = [0u32; TALLIES_LEN];
     let mut v = [0u32; TALLIES_LEN];
-    let mut k: usize = 0;
-    while k + 16 <= n {
+    let sixteens = n / 16;
+    for sixteen in 0..sixteens {
+        let k = 16 * sixteen;
         let first = from + CHANNEL_LEN * k;
         if !sixteen_sound(bank, first, first + 8 * CHANNEL_LEN, &mut t, &mut v) {
             return k;
         }
-        k += 16;
     }
+    let k = 16 * sixteens;
     if k + 8 > n {
         return k;
     }

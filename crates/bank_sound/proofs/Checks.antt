@@ -7,11 +7,15 @@ use native.Mathlib.Nat.{add-zero, zero-add}
 use native.Mathlib.Omega.{arith}
 use native.Mathlib.Numerals.{add-one}
 use lib.Dec.{eqb, ltb, leb}
+use mir.Val.{bool_byte}
 use lib.ListN.{length, get_or, take}
 use lib.Seq.{take-take}
 use borrow.Author.Tests.{eqb-true, eqb-false, eq-eqb, ne_eqb, ltb-true, leb-true}
 use Rattle.laws.specs.Lists.{one, occ, part}
+use Rattle.std.proofs.lemmas.Bool.Decides.{nat_tests}
+use Rattle.std.proofs.lemmas.List.{get_or-take}
 use Rattle.laws.proofs.Counting.{one-le, occ-all, occ-none}
+use Rattle.laws.proofs.Counts.{flag}
 use Rattle.laws.specs.Tests.{all_below}
 use Rattle.laws.proofs.Lists.{get_d_part}
 use Rattle.laws.proofs.Tests.{by-test, all-at, and_l, and_r, and-true, and-false-l, and_false_r}
@@ -30,9 +34,11 @@ unfolding fails
 fails-le zero p = omega arith
 fails-le (suc n) p = omega (arith, fails-le n p, one-le (not (p n)))
 
--- a turn of a loop that counts failures
-pub count-more : (n : ℕ) (p : ℕ → Bool) (x y : ℕ) → x ≡ fails n p → y ≡ one (not (p n)) → x + y ≡ fails (n + 1) p
-count-more n p x y d e = ap₂ ◌+◌ d e ∙ sym (fails_more n p)
+-- a turn of a loop that counts failures in n turns
+pub count_turn : (n i x y : ℕ) (p : ℕ → Bool) (b : Bool) → i < n → x ≡ fails i p → y ≡ bool_byte b → b ≡ not (p i) → (x + y ≡ fails (i + 1) p) × (x + y ≤ n)
+count_turn n i x y p b h d e f =
+    let k : x + y ≡ fails (i + 1) p = ap₂ ◌+◌ d (e ∙ flag b ∙ ap one f) ∙ sym (fails_more i p) in
+    (k, omega (arith, k, fails-le (i + 1) p))
 
 last-fails : (x : ℕ) (a b : Bool) → eqb x 0 ≡ a → eqb (x + one (not b)) 0 ≡ (a && b)
 last-fails x true true h = ap (λ (k : ℕ). eqb k 0) (add-zero x) ∙ h
@@ -97,6 +103,30 @@ pub all-step : (n : ℕ) (p : ℕ → Bool) → all_below (n + 1) p ≡ (all_bel
 unfolding all_below
 all-step n p = rw (add-one n)
 
+-- ---- a turn of each loop, over what it takes of a channel
+
+not-below : (x n : ℕ) → leb n x ≡ not (ltb x n)
+not-below x n = grind (arith, nat_tests)
+
+pub stray_turn : (l : List ℕ) (i x y : ℕ) → i < ring_len → x ≡ fails i (is_bin l) → y ≡ bool_byte (leb bins (get_or (take ring_len l) i 0))
+    → (x + y ≡ fails (i + 1) (is_bin l)) × (x + y ≤ ring_len)
+stray_turn l i x y h d e =
+    count_turn ring_len i x y (is_bin l) (leb bins (get_or (take ring_len l) i 0)) h d e (ap (leb bins) (get_or-take ring_len l i 0 h) ∙ not-below (get_or l i 0) bins)
+
+pub other_turn : (l : List ℕ) (n i x y : ℕ) → i < n → x ≡ fails i (is_first l) → y ≡ bool_byte (not (eqb (get_or (take n l) i 0) (get_or l 0 0)))
+    → (x + y ≡ fails (i + 1) (is_first l)) × (x + y ≤ n)
+other_turn l n i x y h d e =
+    count_turn n i x y (is_first l) (not (eqb (get_or (take n l) i 0) (get_or l 0 0))) h d e (ap (λ (v : ℕ). not (eqb v (get_or l 0 0))) (get_or-take n l i 0 h))
+
+pub used_turn : (l : List ℕ) (i x y : ℕ) → i < bins → x ≡ fails i (is_unused l) → y ≡ bool_byte (not (eqb (get_or (part at_counts bins l) i 0) 0))
+    → (x + y ≡ fails (i + 1) (is_unused l)) × (x + y ≤ bins)
+used_turn l i x y h d e =
+    count_turn bins i x y (is_unused l) (not (eqb (get_or (part at_counts bins l) i 0) 0)) h d e (ap (λ (v : ℕ). not (eqb v 0)) (get_d_part at_counts bins l i 0 h))
+
+pub tallied_turn : (l t : List ℕ) (i x y : ℕ) (a : Bool) → a ≡ all_below i (is_tallied l t) → x ≡ get_or l (at_counts + i) 0 → y ≡ get_or t i 0
+    → (a && eqb x y) ≡ all_below (i + 1) (is_tallied l t)
+tallied_turn l t i x y a d e f = ap₂ ◌&&◌ d (ap₂ eqb e f) ∙ sym (all-step i (is_tallied l t))
+
 -- ---- the ring
 
 pub entry-below : (l : List ℕ) (i : ℕ) → stray_entries l ≡ 0 → i < ring_len → get_or l i 0 < bins
@@ -111,6 +141,18 @@ ring-sound l =
     (λ i h. ap (λ (x : ℕ). ltb x bins) (sym (get_d_part 0 ring_len l i 0 h ∙ ap (λ (k : ℕ). get_or l k 0) (zero-add i))))
 
 -- ---- the recount
+
+-- a ring of one bin, by its count and then by its entries
+pub is-one-bin : (l : List ℕ) (n x m o : ℕ) → x ≡ get_or l 0 0 → m ≡ n → get_or l (at_counts + x) 0 ≡ n → o ≡ other_entries m l → eqb o 0 ≡ of_one_bin n l
+unfolding of_one_bin
+is-one-bin l n x m o d e h k =
+    ap (λ (z : ℕ). eqb z 0) (k ∙ ap (λ (z : ℕ). other_entries z l) e) ∙ sym (ap (λ (b : Bool). b && eqb (other_entries n l) 0) (eq-eqb (get_or l (at_counts + get_or l 0 0) 0) n (rw (← d) h)))
+
+pub is-not-one-bin : (l : List ℕ) (n x : ℕ) → x ≡ get_or l 0 0 → (get_or l (at_counts + x) 0 ≡ n → ⊥) → eqb (get_or l (at_counts + x) 0) n ≡ of_one_bin n l
+unfolding of_one_bin
+is-not-one-bin l n x d h =
+    let f : eqb (get_or l (at_counts + x) 0) n ≡ false = ne_eqb (get_or l (at_counts + x) 0) n h in
+    f ∙ sym (ap (λ (b : Bool). b && eqb (other_entries n l) 0) (rw d at f))
 
 -- what a ring of one bin holds
 own-count : (n : ℕ) (l : List ℕ) → of_one_bin n l ≡ true → get_or l (at_counts + get_or l 0 0) 0 ≡ n

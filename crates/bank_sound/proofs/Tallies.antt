@@ -94,18 +94,3 @@ tallied-none l =
       long = length-replicate {A = ℕ} (4 * bins) 0;
       sums = λ b h. omega (arith, get_or-replicate {A = ℕ} (4 * bins) b 0 0 (omega arith), get_or-replicate {A = ℕ} (4 * bins) (bins + b) 0 0 (omega arith), get_or-replicate {A = ℕ} (4 * bins) (2 * bins + b) 0 0 (omega arith), get_or-replicate {A = ℕ} (4 * bins) (3 * bins + b) 0 0 (omega arith));
     }
-
-pub tallied-at : {i j : ℕ} {l t : List ℕ} → i ≡ j → Tallied i l t → Tallied j l t
-tallied-at {i} {j} {l} {t} e r = rw e at r
-
--- the sums, bin by bin
-pub joined-more : (b : ℕ) (t s : List ℕ) → b < length s → ((k : ℕ) → k < b → get_or s k 0 ≡ lane_sum t k)
-    → (k : ℕ) → k < b + 1 → get_or (set s b (lane_sum t b)) k 0 ≡ lane_sum t k
-joined-more b t s h done k l =
-    by-test (eqb k b)
-    (λ e.
-    let d : k ≡ b = eqb-true k b e in
-    rw d (get_or-set_same s b (lane_sum t b) 0 h))
-    (λ e.
-    let d = eqb-false k b e in
-    get_or-set_other s b k (lane_sum t b) 0 d ∙ done k (omega arith))

@@ -32,13 +32,12 @@ fn floor_hop(bank: &mut [u16], bank_f: &mut [f64], power_db: &[f64])
     requires { Ready bank.old bank_f.old × (length power_db.now ≡ get_or bank.old 0 0) }
     ensures { Holds (floor_step power_db.now (bank_of bank.old bank_f.old)) bank.new bank_f.new }
 {
-    let n = power_db.len();
     bank_pushes::take_seeds(bank, bank_f, power_db);
     bank_pushes::push_all(bank, bank_f, power_db);
-    bank_floors::raw_floors(bank_f, bank, n);
-    bank_floors::usable_floors(bank_f, bank, n);
-    bank_floors::block_floors(bank_f, bank, n);
-    bank_floors::rise_floors(bank_f, bank, n);
+    bank_floors::raw_floors(bank_f, bank);
+    bank_floors::usable_floors(bank_f, bank);
+    bank_floors::block_floors(bank_f, bank);
+    bank_floors::rise_floors(bank_f, bank);
 }
 
 // (c) The phase advances, and the bank has started.
@@ -50,7 +49,7 @@ fn advance(bank: &mut [u16])
     bank[2] = 1;
 }
 
-// One hop that is not refused.
+// One hop that is not refused. Two stores and no struct of them: behind a struct of `&mut` fields, passed by value, an ensures reads store.exit.0.now.
 pub fn take_hop(
     bank: &mut [u16],
     bank_f: &mut [f64],
@@ -64,8 +63,6 @@ pub fn take_hop(
     smooth_all(bank_f, bank, power, hold_reference);
     if bank[1] == 0 {
         floor_hop(bank, bank_f, power_db);
-        advance(bank);
-        return;
     }
     advance(bank);
 }

@@ -6,7 +6,7 @@ use Prim.Native.Nat.{ℕ, zero, suc, ◌+◌, ◌-◌, ◌*◌, ◌/◌, ◌%◌
 use native.Mathlib.Nat.{pow-suc}
 use native.Mathlib.Omega.{arith}
 use lib.Dec.{eqb, ltb}
-use lib.ListN.{length, set}
+use lib.ListN.{length, get_or, set}
 use lib.Pow.{pow_pos}
 use lib.Seq.{get_or-set_same, get_or-set_other}
 use lib.Bits.{bit_and, bit_or, and_step, or_step}
@@ -105,17 +105,23 @@ pub bits-other : (l : List ℕ) (a x k : ℕ) → (k / 8 ≡ a → ⊥) → bit_
 unfolding bit_of
 bits-other l a x k h = ap (λ (b : ℕ). bit_at b (k % 8)) (get_or-set_other l a (k / 8) x 0 h)
 
+-- ---- marks
+
+-- mark k of a list is up
+abbrev pub mark : List ℕ → ℕ → Bool
+mark l k = eqb (get_or l k 0) 1
+
 -- ---- the lowest bits
 
-pub low-is : (u : ℕ) → 1 ≤ u → u ≤ 8 → 255 / 2 ^ (8 - u) ≡ byte (λ j. ltb j u)
+pub low_is : (u : ℕ) → 1 ≤ u → u ≤ 8 → 255 / 2 ^ (8 - u) ≡ byte (λ j. ltb j u)
 unfolding number
-low-is zero h k = absurd (omega arith)
-low-is (suc zero) h k = refl
-low-is (suc (suc zero)) h k = refl
-low-is (suc (suc (suc zero))) h k = refl
-low-is (suc (suc (suc (suc zero)))) h k = refl
-low-is (suc (suc (suc (suc (suc zero))))) h k = refl
-low-is (suc (suc (suc (suc (suc (suc zero)))))) h k = refl
-low-is (suc (suc (suc (suc (suc (suc (suc zero))))))) h k = refl
-low-is (suc (suc (suc (suc (suc (suc (suc (suc zero)))))))) h k = refl
-low-is (suc (suc (suc (suc (suc (suc (suc (suc (suc u))))))))) h k = absurd (omega arith)
+low_is zero h k = absurd (omega arith)
+low_is (suc zero) h k = refl
+low_is (suc (suc zero)) h k = refl
+low_is (suc (suc (suc zero))) h k = refl
+low_is (suc (suc (suc (suc zero)))) h k = refl
+low_is (suc (suc (suc (suc (suc zero))))) h k = refl
+low_is (suc (suc (suc (suc (suc (suc zero)))))) h k = refl
+low_is (suc (suc (suc (suc (suc (suc (suc zero))))))) h k = refl
+low_is (suc (suc (suc (suc (suc (suc (suc (suc zero)))))))) h k = refl
+low_is (suc (suc (suc (suc (suc (suc (suc (suc (suc u))))))))) h k = absurd (omega arith)

@@ -15,44 +15,38 @@ pub const BLOCK_ALLOWANCE_DB: f64 = 3.0;
 
 const SEED_OFFSET_DB: f64 = 3.8;
 
-// A NaN is passed over: `a != a` holds of a NaN only, and a comparison with one is false.
+// A NaN is passed over: a comparison with one is false. Std's min and max leave open which of 0 and -0 they give, and these two
+// say it. Two functions, since one over a comparison would be called with a closure at each place and read no plainer.
 pub fn least(a: f64, b: f64) -> f64
     ensures { result ≡ fmin a b }
 {
-    if a != a {
-        return b;
-    }
-    if b < a { b } else { a }
+    if a.is_nan() || b < a { b } else { a }
 }
 
 pub fn greatest(a: f64, b: f64) -> f64
     ensures { result ≡ fmax a b }
 {
-    if a != a {
-        return b;
-    }
-    if a < b { b } else { a }
+    if a.is_nan() || a < b { b } else { a }
 }
 
 pub fn seed(pushes: u16, sum: f64) -> f64
     ensures { result ≡ seed_of pushes sum }
 {
-    sum / (pushes as f64) - SEED_OFFSET_DB
+    sum / f64::from(pushes) - SEED_OFFSET_DB
 }
 
 // The seed is worked out only where there is one, so nothing is divided by 0.
 fn not_below_seed(x: f64, early: bool, pushes: u16, sum: f64) -> f64
     ensures { result ≡ not_below (early && ltb 0 pushes) x (seed_of pushes sum) }
 {
-    if !early {
-        return x;
+    if early && pushes > 0 {
+        greatest(x, seed(pushes, sum))
+    } else {
+        x
     }
-    if pushes == 0 {
-        return x;
-    }
-    greatest(x, seed(pushes, sum))
 }
 
+#[tactic(auto, unfolding(model::specs::Bank::effective_floor))]
 pub fn effective_floor(usable: f64, block_floor: f64, since: u16, pushes: u16, sum: f64) -> f64
     ensures { result ≡ effective_floor usable block_floor since pushes sum }
 {
@@ -61,6 +55,7 @@ pub fn effective_floor(usable: f64, block_floor: f64, since: u16, pushes: u16, s
 }
 
 // The seed holds the rise floor up until the ring is full, the effective floor only for the first second.
+#[tactic(auto, unfolding(model::specs::Bank::rise_floor))]
 pub fn rise_floor(usable: f64, block_floor: f64, since: u16, pushes: u16, sum: f64) -> f64
     ensures { result ≡ rise_floor usable block_floor since pushes sum }
 {

@@ -9,29 +9,24 @@ use model::layout::HIST_MIN_DB;
 pub fn takes_seed(pushes: u16, med: f64) -> bool
     ensures { result ≡ takes_seed pushes med }
 {
-    if pushes >= 25 {
-        return false;
-    }
-    med >= HIST_MIN_DB
+    pushes < 25 && med >= HIST_MIN_DB
 }
 
 fn pushes_after(pushes: u16, med: f64) -> u16
     requires { pushes ≤ 25 }
     ensures { result ≡ pushes + one (takes_seed pushes med) }
 {
-    if takes_seed(pushes, med) {
-        return pushes + 1;
-    }
-    pushes
+    pushes + u16::from(takes_seed(pushes, med))
 }
 
 fn sum_after(pushes: u16, sum: f64, med: f64) -> f64
     ensures { result ≡ sum_after pushes sum med }
 {
     if takes_seed(pushes, med) {
-        return sum + med;
+        sum + med
+    } else {
+        sum
     }
-    sum
 }
 
 // One slow hop: each block's median is counted and added, while its seed is young.
@@ -39,11 +34,9 @@ pub fn seed_blocks(seeds: &mut [u16], sums: &mut [f64], power_db: &[f64])
     requires { Seedable seeds.old sums.old power_db.now }
     ensures { Seeded seeds.old sums.old power_db.now seeds.new sums.new }
 {
-    let mut i: usize = 0;
-    while i < seeds.len() {
+    for i in 0..seeds.len() {
         let med = median::block_median(power_db, i);
         sums[i] = sum_after(seeds[i], sums[i], med);
         seeds[i] = pushes_after(seeds[i], med);
-        i += 1;
     }
 }

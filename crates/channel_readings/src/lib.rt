@@ -8,7 +8,7 @@ ghost use Rattle.model.specs.Readings.{effective_at, rise_at, floors_at, VeryPar
 ghost use Rattle.channel_readings.specs.Readable.{Readable};
 ghost use Rattle.channel_readings.specs.Sources.{sources_at};
 
-use model::layout::{BLOCK_CHANNELS, BLOCK_REST, CHANNEL_LEN, RING_LEN};
+use model::layout::{BLOCK_CHANNELS, CHANNEL_LEN, RING_LEN};
 
 // The numbers that a channel's effective and rise floor come from: its usable floor, its block's floor, its entries since the leading
 // silence, and its block's seed pushes and seed sum.
@@ -21,14 +21,15 @@ pub struct Sources {
     pub sum: f64,
 }
 
+#[tactic(auto, using(crate::proofs::Places::sound_part))]
 pub fn sources_at(bank: &[u16], bank_f: &[f64], k: usize) -> Sources
     requires { Readable bank.now bank_f.now k }
     ensures { result ≡ sources_at (bank_of bank.now bank_f.now) k }
 {
-    let n = laws::wide(bank[0]);
-    let blocks = (n + BLOCK_REST) / BLOCK_CHANNELS;
+    let n = usize::from(bank[0]);
+    let blocks = n.div_ceil(BLOCK_CHANNELS);
     let i = k / BLOCK_CHANNELS;
-    let a = 3 + blocks + CHANNEL_LEN * k;
+    let a = ring_start(bank, k);
     let e = a + CHANNEL_LEN;
     let since = ring::since(&bank[a..e]);
     Sources {
@@ -40,6 +41,7 @@ pub fn sources_at(bank: &[u16], bank_f: &[f64], k: usize) -> Sources
     }
 }
 
+#[tactic(auto, unfolding(model::specs::Readings::effective_at, crate::specs::Sources::sources_at))]
 pub fn effective_at(bank: &[u16], bank_f: &[f64], k: usize) -> f64
     requires { Readable bank.now bank_f.now k }
     ensures { result ≡ effective_at (bank_of bank.now bank_f.now) k }
@@ -48,14 +50,16 @@ pub fn effective_at(bank: &[u16], bank_f: &[f64], k: usize) -> f64
     block::effective_floor(x.usable, x.block_floor, x.since, x.pushes, x.sum)
 }
 
+#[tactic(auto, using(crate::proofs::Places::rise_is))]
 pub fn rise_at(bank: &[u16], bank_f: &[f64], k: usize) -> f64
     requires { Readable bank.now bank_f.now k }
     ensures { result ≡ rise_at (bank_of bank.now bank_f.now) k }
 {
-    let n = laws::wide(bank[0]);
+    let n = usize::from(bank[0]);
     bank_f[3 * n + k]
 }
 
+#[tactic(auto, using(crate::proofs::Places::raw_is), unfolding(model::specs::Readings::floors_at))]
 pub fn floors_at(bank: &[u16], bank_f: &[f64], k: usize) -> model::Floors
     requires { Readable bank.now bank_f.now k }
     ensures { result ≡ floors_at (bank_of bank.now bank_f.now) k }
@@ -74,8 +78,8 @@ pub fn ring_start(bank: &[u16], k: usize) -> usize
     requires { (k < get_or bank.now 0 0) × (get_or bank.now 0 0 ≤ 512) × (length bank.now ≡ bank_len (get_or bank.now 0 0)) }
     ensures { (result ≡ base (get_or bank.now 0 0) + channel_len * k) × (result + ring_len ≤ length bank.now) }
 {
-    let n = laws::wide(bank[0]);
-    3 + (n + BLOCK_REST) / BLOCK_CHANNELS + CHANNEL_LEN * k
+    let n = usize::from(bank[0]);
+    3 + n.div_ceil(BLOCK_CHANNELS) + CHANNEL_LEN * k
 }
 
 pub fn ring_at<'a>(bank: &'a [u16], a: usize) -> &'a [u16]

@@ -1,14 +1,10 @@
 -- Laws on the selection. Assumes nothing.
-use mathlib.Core.Path.{◌≡◌, refl, sym, ap, ap₂, ◌∙◌}
-use mathlib.Core.Bool.{Bool, true, false, cond, not}
+use mathlib.Core.Path.{◌≡◌, refl, sym, ap, ◌∙◌}
+use mathlib.Core.Bool.{Bool, true, false, cond}
 use mathlib.Core.List.{List}
 use Prim.Native.Nat.{ℕ, ◌%◌, ◌^◌, ◌<◌}
 use native.Mathlib.Omega.{arith}
-use lib.Dec.{eqb}
-use lib.Ieee.{Float, nan, inf, fin, binary32, of_bits, eq, ne, lt, is_nan}
 use lib.ListN.{length, get_or}
-use borrow.Author.Tests.{eq-eqb}
-use Rattle.laws.proofs.Floats.{ne-self}
 use Rattle.laws.proofs.Tabs.{length-tab, get_d-tab, tab-ext, tab-get_d}
 use Rattle.log_model.specs.Whole.{Below, Hops}
 use Rattle.combine_model.specs.Choose.{is_second, chosen_at, selected}
@@ -48,29 +44,3 @@ hops-selected n d p e q h k same =
       dbs = selected-below (2 ^ 64) p q d e same h.dbs k.dbs;
       powers = selected-below (2 ^ 32) p q p q (k.alike ∙ same ∙ sym h.alike) h.powers k.powers;
     }
-
--- ---- the code's tests: x != x is the test for a NaN, x == x for a number
-
-eqb_same : (n : ℕ) → eqb n n ≡ true
-eqb_same n = eq-eqb n n refl
-
-eq_self : (x : Float) → eq x x ≡ not (is_nan x)
-unfolding eq is_nan
-eq_self nan = refl
-eq_self (inf true) = refl
-eq_self (inf false) = refl
-eq_self (fin true m e) = simp eqb_same
-eq_self (fin false m e) = simp eqb_same
-
-module _ (p q : ℕ) (a b : Float) (x : a ≡ of_bits binary32 p) (y : b ≡ of_bits binary32 q) where
-  pub second-nan : ne a a ≡ true → eq b b ≡ is_second p q
-  unfolding is_second
-  second-nan h =
-      eq_self b ∙ ap (λ (f : Float). not (is_nan f)) y
-      ∙ sym (ap (λ (t : Bool). cond t (not (is_nan (of_bits binary32 q))) (lt (of_bits binary32 p) (of_bits binary32 q))) (ap is_nan (sym x) ∙ sym (ne-self a) ∙ h))
-
-  pub second-number : ne a a ≡ false → lt a b ≡ is_second p q
-  unfolding is_second
-  second-number h =
-      ap₂ lt x y
-      ∙ sym (ap (λ (t : Bool). cond t (not (is_nan (of_bits binary32 q))) (lt (of_bits binary32 p) (of_bits binary32 q))) (ap is_nan (sym x) ∙ sym (ne-self a) ∙ h))

@@ -1,4 +1,5 @@
 -- What a reading hands out: whole hops of bit patterns that fit, so the writer takes them. Assumes nothing.
+use Rattle.std.specs.Prelude.{Some, None, Ok, Err}
 use mathlib.Core.Path.{◌≡◌, refl, sym, ap, subst, ◌∙◌}
 use mathlib.Core.Bool.{Bool, true, false, cond}
 use mathlib.Core.List.{List, [], ◌++◌}
@@ -16,9 +17,8 @@ use Rattle.low_first.specs.LowFirst.{low_two, low_four, low_eight}
 use Rattle.log_model.specs.Format.{log_of}
 use Rattle.log_model.specs.Read.{is_set, pair_at, db_after, power_after, read_hop}
 use Rattle.log_model.specs.Whole.{Reading, onward, read_on, read_log, Below, Hops}
-use Rattle.log_model.specs.declared.LogRead.TheVariants.{Next, End, Refused}
 use Rattle.log_model.proofs.Answers.{Started, started}
-use Rattle.log_model.proofs.Inverse.{Read, read-tells, end-tells, kind}
+use Rattle.log_model.proofs.Inverse.{Read, read-tells, end-tells}
 use Rattle.log_model.proofs.NoOther.{all_small, no_other}
 use Rattle.combine_model.specs.Combined.{db_of, power_of}
 
@@ -100,13 +100,13 @@ module _ (log : List ℕ) (small : (i : ℕ) → get_or log i 0 < 256) where
     where
       go : ((next : ℕ) (d p : List ℕ) → Below (2 ^ 64) d → Below (2 ^ 32) p → Taken n (read_on m log next d p).1 (read_on m log next d p).2)
           → (r : Reading) → read_hop log at db power ≡ r → Taken n (onward r (read_on m log)).1 (onward r (read_on m log)).2
-      go more (Next next, d, p) e =
+      go more (Ok (Some next), d, p) e =
           let r = read-tells log at db power next d p e in
           let bd = dbs-fit at db power next d p r b in
           let bp = powers-fit at db power next d p r c in
           one_more at db power next d p (read_on m log next d p).1 (read_on m log next d p).2 r bd bp (more next d p bd bp)
-      go more (End, d, p) e = none n
-      go more (Refused x, d, p) e = none n
+      go more (Ok None, d, p) e = none n
+      go more (Err x, d, p) e = none n
 
 zeros-fit : (b n : ℕ) → 0 < b → Below b (tab n (λ _. 0))
 zeros-fit b n h = below-tab b n (λ _. 0) (λ _ _. h)
@@ -115,7 +115,7 @@ pub taken : (log : List ℕ) → Below 256 log → Taken (low_two log 0) (db_of 
 taken log bound = taken-on log (all_small log bound) (suc (length log)) 2 _ _ (zeros-fit (2 ^ 64) (low_two log 0) (omega arith)) (zeros-fit (2 ^ 32) (low_two log 0) (omega arith))
 
 -- a reading that did not end with a refusal began well
-pub began : (log : List ℕ) → (read_log log).0 ≡ End → Started log 2 (low_two log 0) (low_two log 0) (low_two log 0)
+pub began : (log : List ℕ) → (read_log log).0 ≡ Ok None → Started log 2 (low_two log 0) (low_two log 0) (low_two log 0)
 unfolding read_on
 began log e = subst (λ (m : ℕ). Started log 2 n m m) (length-tab n (λ _. 0)) (go (read_hop log 2 zs zs) refl e)
   where
@@ -125,13 +125,13 @@ began log e = subst (λ (m : ℕ). Started log 2 n m m) (length-tab n (λ _. 0))
     zs : List ℕ
     zs = tab n (λ _. 0)
 
-    go : (r : Reading) → read_hop log 2 zs zs ≡ r → (onward r (read_on (length log) log)).0 ≡ End → Started log 2 n (length zs) (length zs)
-    go (Next next, d, p) f g = started log 2 (length zs) (length zs) (read-tells log 2 zs zs next d p f).start_ok
-    go (End, d, p) f g = started log 2 (length zs) (length zs) (end-tells log 2 zs zs d p f).0
-    go (Refused x, d, p) f g = absurd (let z : ◌≡◌ {A = ℕ} 2 1 = ap kind g in omega arith)
+    go : (r : Reading) → read_hop log 2 zs zs ≡ r → (onward r (read_on (length log) log)).0 ≡ Ok None → Started log 2 n (length zs) (length zs)
+    go (Ok (Some next), d, p) f g = started log 2 (length zs) (length zs) (read-tells log 2 zs zs next d p f).start_ok
+    go (Ok None, d, p) f g = started log 2 (length zs) (length zs) (end-tells log 2 zs zs d p f).0
+    go (Err x, d, p) f g = cc
 
 -- what a log that reads to its end holds is what the writer takes, and it is the writer's log
-pub hops-of : (log : List ℕ) → Below 256 log → (read_log log).0 ≡ End → Hops (low_two log 0) (db_of log) (power_of log)
+pub hops-of : (log : List ℕ) → Below 256 log → (read_log log).0 ≡ Ok None → Hops (low_two log 0) (db_of log) (power_of log)
 hops-of log bound e =
     let t = taken log bound in
     let s = began log e in
@@ -144,5 +144,5 @@ hops-of log bound e =
       powers = t.powers;
     }
 
-pub log_is : (log : List ℕ) → Below 256 log → (read_log log).0 ≡ End → log ≡ log_of (low_two log 0) (db_of log) (power_of log)
+pub log_is : (log : List ℕ) → Below 256 log → (read_log log).0 ≡ Ok None → log ≡ log_of (low_two log 0) (db_of log) (power_of log)
 log_is log bound e = no_other log (db_of log) (power_of log) bound (λ i. (e i, db_of log, power_of log))

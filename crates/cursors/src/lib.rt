@@ -27,39 +27,30 @@ impl Cursor {
         requires { CursorFits self }
         ensures { result ≡ advanced_of self }
     {
-        let m = self.m;
-        let at = self.at;
-        let filled = self.filled;
-        let width = m + m;
-        let mut next = at + 1;
-        if next >= width {
-            next = 0;
-        }
-        let mut grown = width;
-        if filled < width {
-            grown = filled + 1;
-        }
+        let width = self.m + self.m;
+        let next = self.at + 1;
+        let at = if next >= width { 0 } else { next };
         Cursor {
-            m: m,
-            at: next,
-            filled: grown,
+            m: self.m,
+            at,
+            filled: (self.filled + 1).min(width),
         }
     }
 
     // Half a ring on from the place of the next sample.
+    #[tactic(auto, using(crate::proofs::Wraps::within, crate::proofs::Wraps::past))]
     pub fn middle(self) -> Middle
         requires { CursorFits self }
         ensures { (result ≡ middle_from self) × (result.place < 2 * self.m) }
     {
-        let m = self.m;
-        let at = self.at;
-        let mut place = at + m;
-        if at >= m {
-            place = at - m;
-        }
+        let place = if self.at >= self.m {
+            self.at - self.m
+        } else {
+            self.at + self.m
+        };
         Middle {
             cursor: self,
-            place: place,
+            place,
         }
     }
 }

@@ -12,6 +12,7 @@ fn rung_db(r: usize) -> f64
     requires { r < rung_count }
     ensures { result ≡ rung_db r }
 {
+    // No From leads to f64 from so wide a number.
     LADDER_MIN_DB + r as f64 / 8.0
 }
 
@@ -22,12 +23,10 @@ pub fn hop_db(power: &[f32]) -> [f64; 512]
 {
     let rungs = rungs::table::rungs();
     let mut db = [0.0; 512];
-    let mut k: usize = 0;
-    while k < power.len() {
-        let linear = powers::power_linear(power[k]);
+    for (k, &p) in power.iter().enumerate() {
+        let linear = powers::power_linear(p);
         let value = rung_db(rungs::highest_rung(&rungs, linear));
         db[k] = value;
-        k += 1;
     }
     db
 }
@@ -36,7 +35,6 @@ pub fn hop_db(power: &[f32]) -> [f64; 512]
 pub fn power_db(power: f32) -> f64
     ensures { result ≡ power_db power }
 {
-    let one = [power];
-    let db = hop_db(&one);
+    let db = hop_db(&[power]);
     db[0]
 }

@@ -1,5 +1,6 @@
 -- A segment that is waiting at as many consecutive accepted ticks as there are segments has been served in one of them: each tick that serves
 -- another brings the last served nearer to it. Assumes nothing.
+use Rattle.std.specs.Prelude.{Option, Some, None, Result, Ok, Err}
 use mathlib.Core.Path.{◌≡◌, refl, sym, ap, ◌∙◌, subst}
 use mathlib.Core.Bool.{Bool, true, false, not, cond, ◌||◌}
 use mathlib.Core.List.{List, [], ◌∷◌}
@@ -13,8 +14,6 @@ use Rattle.laws.specs.Lists.{part}
 use Rattle.laws.specs.Tests.{within}
 use Rattle.laws.proofs.Tests.{by-test, clash, and_l, and_r, and-true, or_l}
 use Rattle.roles.specs.Rights.{dispatch, may, as_role}
-use Rattle.dispatch.specs.declared.Dispatched.{Dispatched}
-use Rattle.dispatch.specs.declared.Dispatched.TheVariants.{Segment, NoneWaiting, Refused}
 use Rattle.dispatch.specs.Dispatch.{waits, strays, wrong, first_after, dispatch_of, given_back}
 use Rattle.dispatch.specs.Fair.{Tick, answer_of, steps_to, InTurn, Right, ticks, is_accepted, serves, every, some, waits_at, FairWithin, Fair, FairInEight, only, accepted_of, RefusedLeftOut, FairAmong}
 use Rattle.dispatch.proofs.Steps.{here, later}
@@ -25,7 +24,7 @@ use Rattle.dispatch.proofs.Turns.{steps-by, steps_low, steps_high, steps-same, l
 not-wrong : (count w last : ℕ) → is_accepted (dispatch_of count w last) ≡ true → wrong count w last ≡ false
 not-wrong count w last e =
     by-test (wrong count w last)
-    (λ t. clash (sym e ∙ ap (λ (b : Bool). is_accepted (cond b (Refused 14) (first_after count w last))) t)) (λ t. t)
+    (λ t. clash (sym e ∙ ap (λ (b : Bool). is_accepted (cond b (Err 14) (Ok (first_after count w last)))) t)) (λ t. t)
 
 count-few : (count w last : ℕ) → is_accepted (dispatch_of count w last) ≡ true → count ≤ 8
 count-few count w last e =
@@ -67,11 +66,11 @@ module _ (count i : ℕ) (b : i < count) where
       (steps-same count last h i j b r.segment
       (omega (arith, ltb-false))))))
 
-  nearer : (w last : ℕ) → last < count → waits w i ≡ true → (a : Dispatched) → Right count w last a → is_accepted a ≡ true → serves i a ≡ false
+  nearer : (w last : ℕ) → last < count → waits w i ≡ true → (a : Result (Option ℕ) ℕ) → Right count w last a → is_accepted a ≡ true → serves i a ≡ false
       → (given_back last a < count) × (steps_to count (given_back last a) i < steps_to count last i)
-  nearer w last h e (Segment j) r q n = (r.segment, past last j h r.segment (stood-nearer w last j h e r n))
-  nearer w last h e NoneWaiting r q n = clash (sym e ∙ r i b)
-  nearer w last h e (Refused x) r q n = clash (sym q)
+  nearer w last h e (Ok (Some j)) r q n = (r.segment, past last j h r.segment (stood-nearer w last j h e r n))
+  nearer w last h e (Ok None) r q n = clash (sym e ∙ r i b)
+  nearer w last h e (Err x) r q n = clash (sym q)
 
   -- ---- a run
 
@@ -85,10 +84,10 @@ module _ (count i : ℕ) (b : i < count) where
       (served-from ts (given_back last a) n.0 (omega (arith, n.1)) (and_r (waits_at i t) (every (waits_at i) ts) e)
       (and_r (is_accepted a) (every is_accepted rest) q))))
     where
-      a : Dispatched
+      a : Result (Option ℕ) ℕ
       a = answer_of count last t
 
-      rest : List Dispatched
+      rest : List (Result (Option ℕ) ℕ)
       rest = ticks count (given_back last a) ts
 
       taken : is_accepted a ≡ true
@@ -109,7 +108,7 @@ ticks-take : (n count last : ℕ) (ts : List Tick) → take n (ticks count last 
 ticks-take zero count last ts = refl
 ticks-take (suc n) count last [] = refl
 ticks-take (suc n) count last (t ∷ ts) =
-    ap (λ (r : List Dispatched). answer_of count last t ∷ r) (ticks-take n count (given_back last (answer_of count last t)) ts)
+    ap (λ (r : List (Result (Option ℕ) ℕ)). answer_of count last t ∷ r) (ticks-take n count (given_back last (answer_of count last t)) ts)
 
 within-run : (n count i : ℕ)
     → ((ts : List Tick) (last : ℕ) → n ≤ length ts → every (waits_at i) ts ≡ true
@@ -165,17 +164,17 @@ fair-in-eight count last i b ts a l e q = fair-within _ count (omega (arith, few
 
 -- ---- refused and stopped ticks between accepted ones
 
-refused-keeps : (last : ℕ) (a : Dispatched) → is_accepted a ≡ false → given_back last a ≡ last
-refused-keeps last (Segment j) e = clash e
-refused-keeps last NoneWaiting e = clash e
-refused-keeps last (Refused r) e = refl
+refused-keeps : (last : ℕ) (a : Result (Option ℕ) ℕ) → is_accepted a ≡ false → given_back last a ≡ last
+refused-keeps last (Ok (Some j)) e = clash e
+refused-keeps last (Ok None) e = clash e
+refused-keeps last (Err r) e = refl
 
 pub refused-left-out : RefusedLeftOut
 refused-left-out count last [] = refl
 refused-left-out count last (t ∷ ts) =
     let a = answer_of count last t in
     let rest = refused-left-out count (given_back last a) ts in
-    by-test (is_accepted a) (λ v. simp v (ap (λ (r : List Dispatched). a ∷ r) rest))
+    by-test (is_accepted a) (λ v. simp v (ap (λ (r : List (Result (Option ℕ) ℕ)). a ∷ r) rest))
     (λ v. simp v (rest ∙ ap (λ (l : ℕ). ticks count l (accepted_of count (given_back last a) ts)) (refused-keeps last a v)))
 
 every_drop : {A : Type 0} (p : A → Bool) (n : ℕ) (xs : List A) → every p xs ≡ true → every p (drop n xs) ≡ true
@@ -191,7 +190,7 @@ pub fair-among : FairAmong
 fair-among count last i b ts a l e =
     let us = only is_accepted (ticks count last ts) in
     let same = refused-left-out count last ts in
-    ap (λ (r : List Dispatched). some (serves i) (part a 8 r)) same
+    ap (λ (r : List (Result (Option ℕ) ℕ)). some (serves i) (part a 8 r)) same
     ∙ fair-in-eight count last i b (accepted_of count last ts) a l e
-    (sym (ap (λ (r : List Dispatched). every is_accepted (part a 8 r)) same)
+    (sym (ap (λ (r : List (Result (Option ℕ) ℕ)). every is_accepted (part a 8 r)) same)
     ∙ every_take is_accepted 8 (drop a us) (every_drop is_accepted a us (every-only is_accepted (ticks count last ts))))

@@ -2,12 +2,16 @@
 #![tactic(auto)]
 
 ghost use Rattle.std.specs.Prelude.{◌≡◌, length};
+ghost use Rattle.refusals.specs.Numbers.{answer};
 ghost use Rattle.model.specs.Stores.{bank_of};
 ghost use Rattle.model.specs.Gate.{update_step, hold_step};
 ghost use Rattle.model.specs.GateStores.{gate_of};
 ghost use Rattle.model.specs.GateCalls.{gate_update_call, gate_hold_call};
 ghost use Rattle.gate.specs.Hops.{Keeps, Takes, Taken};
 
+use refusals::Refusal;
+
+// Slices and no struct of them: behind a struct of `&mut` an ensures reads store.exit.0.now, and C lends them one by one.
 // One hop that is not refused: the gate steps, its pairs are brought up to date (R-3), and it is judged.
 pub fn take_hop(
     bank: &[u16],
@@ -37,10 +41,10 @@ pub fn gate_update(
     power: &[f32],
     rise: &mut [u8],
     drop: &mut [u8],
-) -> u16
-    ensures { (result, gate.new, gate_f.new, rise.new, drop.new) ≡ gate_update_call bank.now bank_f.now gate.old gate_f.old (record { db = power_db.now; power = power.now }) rise.old drop.old }
+) -> Result<(), Refusal>
+    ensures { (answer result, gate.new, gate_f.new, rise.new, drop.new) ≡ gate_update_call bank.now bank_f.now gate.old gate_f.old (record { db = power_db.now; power = power.now }) rise.old drop.old }
 {
-    let refusal = gate_store::gate_update_refusal(
+    gate_store::gate_update_refusal(
         bank,
         bank_f,
         gate,
@@ -49,12 +53,9 @@ pub fn gate_update(
         power.len(),
         rise.len(),
         drop.len(),
-    );
-    if refusal != 0 {
-        return refusal;
-    }
+    )?;
     take_hop(bank, bank_f, gate, gate_f, power_db, power, rise, drop);
-    0
+    Ok(())
 }
 
 // One hold that is not refused: the floors may have moved since, so the pairs are brought up to date here too (R-3).
@@ -81,13 +82,10 @@ pub fn gate_hold(
     gate_f: &mut [f64],
     rise: &mut [u8],
     drop: &mut [u8],
-) -> u16
-    ensures { (result, gate_f.new, rise.new, drop.new) ≡ gate_hold_call bank.now bank_f.now gate.now gate_f.old rise.old drop.old }
+) -> Result<(), Refusal>
+    ensures { (answer result, gate_f.new, rise.new, drop.new) ≡ gate_hold_call bank.now bank_f.now gate.now gate_f.old rise.old drop.old }
 {
-    let refusal = gate_store::hold_refusal(bank, bank_f, gate, gate_f, rise.len(), drop.len());
-    if refusal != 0 {
-        return refusal;
-    }
+    gate_store::hold_refusal(bank, bank_f, gate, gate_f, rise.len(), drop.len())?;
     take_hold(bank, bank_f, gate, gate_f, rise, drop);
-    0
+    Ok(())
 }

@@ -9,10 +9,10 @@ use native.Mathlib.Omega.{arith}
 use native.Mathlib.Numerals.{add-one}
 use lib.Dec.{eqb}
 use lib.ListN.{length, get_or, take}
-use lib.Seq.{take-suc, get_or-take, length-take-le}
+use lib.Seq.{take-suc, length-take-le}
 use borrow.Author.Tests.{eqb-true}
 use Rattle.laws.specs.Tests.{within}
-use Rattle.laws.proofs.Tests.{clash, by-test, and_l, and_r, and-true, and-false-l, and_false_r, within_of}
+use Rattle.laws.proofs.Tests.{by-test, and_l, and_r, within_of}
 use Rattle.model.specs.Gate.{among, distinct}
 use Rattle.model.specs.GateStores.{look_size, look_start}
 use Rattle.model.specs.GateCalls.{all_within, good_lengths}
@@ -24,33 +24,13 @@ take_more l i h = ap (λ (k : ℕ). take k l) (add-one i) ∙ take-suc l i 0 h
 
 -- ---- those that making takes
 
-within-snoc : (l : List ℕ) (x : ℕ) → all_within l ≡ true → within 1 375 x ≡ true → all_within (l ++ (x ∷ [])) ≡ true
-within-snoc [] x h k = and-true (within 1 375 x) true k refl
-within-snoc (m ∷ l) x h k = and-true (within 1 375 m) (all_within (l ++ (x ∷ []))) (and_l (within 1 375 m) (all_within l) h) (within-snoc l x (and_r (within 1 375 m) (all_within l) h) k)
-
 within-at : (l : List ℕ) (i : ℕ) → i < length l → all_within l ≡ true → within 1 375 (get_or l i 0) ≡ true
 within-at [] i h a = absurd (omega arith)
 within-at (m ∷ l) zero h a = and_l (within 1 375 m) (all_within l) a
 within-at (m ∷ l) (suc i) h a = within-at l i (omega arith) (and_r (within 1 375 m) (all_within l) a)
 
-pub within_more : (l : List ℕ) (i : ℕ) → i < length l → all_within (take i l) ≡ true → within 1 375 (get_or l i 0) ≡ true → all_within (take (i + 1) l) ≡ true
-within_more l i h a k = ap all_within (take_more l i h) ∙ within-snoc (take i l) (get_or l i 0) a k
-
 abbrev some : List ℕ → Bool
 some l = within 1 8 (length l)
-
-pub none-or-many : (l : List ℕ) → some l ≡ false → false ≡ good_lengths l
-unfolding good_lengths
-none-or-many l h = sym (and-false-l (some l) (all_within l) h)
-
-pub one-wrong : (l : List ℕ) (i : ℕ) → i < length l → within 1 375 (get_or l i 0) ≡ false → false ≡ good_lengths l
-unfolding good_lengths
-one-wrong l i h k =
-    by-test (all_within l) (λ t. clash (sym (within-at l i h t) ∙ k)) (λ t. sym (and_false_r (some l) (all_within l) t))
-
-pub all_right : (l : List ℕ) → some l ≡ true → all_within l ≡ true → true ≡ good_lengths l
-unfolding good_lengths
-all_right l h k = sym (and-true (some l) (all_within l) h k)
 
 pub few : (l : List ℕ) → good_lengths l ≡ true → length l ≤ 8
 unfolding good_lengths
@@ -59,25 +39,6 @@ few l h = (within_of 1 8 (length l) (and_l (some l) (all_within l) h)).1
 pub short : (l : List ℕ) (i : ℕ) → i < length l → good_lengths l ≡ true → get_or l i 0 ≤ 375
 unfolding good_lengths
 short l i h g = (within_of 1 375 (get_or l i 0) (within-at l i h (and_r (some l) (all_within l) g))).1
-
--- ---- those that were seen
-
-among-snoc : (m : ℕ) (l : List ℕ) (x : ℕ) → among m l ≡ false → eqb m x ≡ false → among m (l ++ (x ∷ [])) ≡ false
-among-snoc m [] x h k = rw k
-among-snoc m (y ∷ l) x h k =
-    by-test (eqb m y) (λ t. clash (rw t at h)) (λ t. rw t (among-snoc m l x (rw t at h) k))
-
-pub among-more : (m : ℕ) (l : List ℕ) (j : ℕ) → j < length l → among m (take j l) ≡ false → eqb m (get_or l j 0) ≡ false → among m (take (j + 1) l) ≡ false
-among-more m l j h a k = ap (among m) (take_more l j h) ∙ among-snoc m (take j l) (get_or l j 0) a k
-
-among-at : (m : ℕ) (l : List ℕ) (j : ℕ) → j < length l → eqb m (get_or l j 0) ≡ true → among m l ≡ true
-among-at m [] j h e = absurd (omega arith)
-among-at m (y ∷ l) zero h e = rw e
-among-at m (y ∷ l) (suc j) h e = by-test (eqb m y) (λ t. rw t) (λ t. rw t (among-at m l j (omega arith) e))
-
-pub among-before : (m : ℕ) (l : List ℕ) (j i : ℕ) → j < i → i ≤ length l → eqb m (get_or l j 0) ≡ true → among m (take i l) ≡ true
-among-before m l j i h k e =
-    among-at m (take i l) j (omega (arith, length-take-le i l k)) (ap (eqb m) (get_or-take i l j 0 h) ∙ e)
 
 -- ---- the distinct ones
 

@@ -10,29 +10,13 @@ ghost use Rattle.gate_lengths.specs.Makes.{floats_more};
 fn length_good(m: u16) -> bool
     ensures { result ≡ within 1 375 m }
 {
-    if m < 1 {
-        return false;
-    }
-    m <= 375
+    m >= 1 && m <= 375
 }
 
 pub fn lengths_good(lengths: &[u16]) -> bool
     ensures { result ≡ good_lengths lengths.now }
 {
-    if lengths.len() < 1 {
-        return false;
-    }
-    if lengths.len() > 8 {
-        return false;
-    }
-    let mut i: usize = 0;
-    while i < lengths.len() {
-        if !length_good(lengths[i]) {
-            return false;
-        }
-        i += 1;
-    }
-    true
+    lengths.len() >= 1 && lengths.len() <= 8 && lengths.iter().all(|m| length_good(*m))
 }
 
 // Length i stands in the list before.
@@ -40,15 +24,7 @@ pub fn seen(lengths: &[u16], i: usize) -> bool
     requires { i < length lengths.now }
     ensures { result ≡ among (get_or lengths.now i 0) (take i lengths.now) }
 {
-    let m = lengths[i];
-    let mut j: usize = 0;
-    while j < i {
-        if lengths[j] == m {
-            return true;
-        }
-        j += 1;
-    }
-    false
+    lengths[..i].contains(&lengths[i])
 }
 
 // What length i adds to the floats: nothing if it was seen.
@@ -57,9 +33,10 @@ fn floats_more(n: usize, lengths: &[u16], i: usize) -> usize
     ensures { (result ≡ floats_more n lengths.now i) × (result ≤ 385024) }
 {
     if seen(lengths, i) {
-        return 0;
+        0
+    } else {
+        gate_sound::look_size(n, usize::from(lengths[i]))
     }
-    gate_sound::look_size(n, laws::wide(lengths[i]))
 }
 
 // The floats of a gate of n channels and these lengths.
@@ -68,10 +45,8 @@ pub fn floats_for(n: usize, lengths: &[u16]) -> usize
     ensures { result ≡ floats_for n (distinct [] lengths.now) }
 {
     let mut floats = n;
-    let mut i: usize = 0;
-    while i < lengths.len() {
+    for i in 0..lengths.len() {
         floats += floats_more(n, lengths, i);
-        i += 1;
     }
     floats + 2 * n
 }

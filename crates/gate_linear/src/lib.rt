@@ -2,8 +2,11 @@
 #![tactic(auto)]
 
 ghost use Rattle.std.specs.Prelude.{◌≡◌};
+ghost use Rattle.refusals.specs.Numbers.{answer};
 ghost use Rattle.model.specs.GateCalls.{gate_update_call};
 ghost use Rattle.model.specs.Decibels.{linear_gate_hop};
+
+use refusals::Refusal;
 
 // One hop's linear power of each channel, whose dB is worked out here.
 pub fn gate_update_linear(
@@ -14,24 +17,12 @@ pub fn gate_update_linear(
     power: &[f32],
     rise: &mut [u8],
     drop: &mut [u8],
-) -> u16
-    ensures { (result, gate.new, gate_f.new, rise.new, drop.new) ≡ gate_update_call bank.now bank_f.now gate.old gate_f.old (linear_gate_hop power.now) rise.old drop.old }
+) -> Result<(), Refusal>
+    ensures { (answer result, gate.new, gate_f.new, rise.new, drop.new) ≡ gate_update_call bank.now bank_f.now gate.old gate_f.old (linear_gate_hop power.now) rise.old drop.old }
 {
     let n = power.len();
-    let refusal = gate_store::gate_update_refusal(
-        bank,
-        bank_f,
-        gate,
-        gate_f,
-        n,
-        n,
-        rise.len(),
-        drop.len(),
-    );
-    if refusal != 0 {
-        return refusal;
-    }
+    gate_store::gate_update_refusal(bank, bank_f, gate, gate_f, n, n, rise.len(), drop.len())?;
     let db = decibels::hop_db(power);
     gate::take_hop(bank, bank_f, gate, gate_f, &db[..n], power, rise, drop);
-    0
+    Ok(())
 }

@@ -2,8 +2,11 @@
 #![tactic(auto)]
 
 ghost use Rattle.std.specs.Prelude.{◌≡◌};
+ghost use Rattle.refusals.specs.Numbers.{answer};
 ghost use Rattle.model.specs.MapCalls.{gate_update_map_call};
 ghost use Rattle.model.specs.Decibels.{linear_gate_hop};
+
+use refusals::Refusal;
 
 // One hop's linear power of each channel, whose dB is worked out here; then the flags of the marks are set.
 pub fn gate_update_linear_map(
@@ -15,11 +18,11 @@ pub fn gate_update_linear_map(
     power: &[f32],
     rise: &mut [u8],
     drop: &mut [u8],
-) -> u16
-    ensures { (result, gate.new, gate_f.new, map.new, rise.new, drop.new) ≡ gate_update_map_call bank.now bank_f.now gate.old gate_f.old map.old (linear_gate_hop power.now) rise.old drop.old }
+) -> Result<(), Refusal>
+    ensures { (answer result, gate.new, gate_f.new, map.new, rise.new, drop.new) ≡ gate_update_map_call bank.now bank_f.now gate.old gate_f.old map.old (linear_gate_hop power.now) rise.old drop.old }
 {
     let n = power.len();
-    let refusal = map_lent::update_map_refusal(
+    map_lent::update_map_refusal(
         bank,
         bank_f,
         gate,
@@ -29,12 +32,9 @@ pub fn gate_update_linear_map(
         n,
         rise.len(),
         drop.len(),
-    );
-    if refusal != 0 {
-        return refusal;
-    }
+    )?;
     let db = decibels::hop_db(power);
     gate::take_hop(bank, bank_f, gate, gate_f, &db[..n], power, rise, drop);
     map_marks::set_marks(map, n, rise, drop);
-    0
+    Ok(())
 }

@@ -10,8 +10,8 @@ use lib.Ieee.{Float, nan, binary64, div, of_bits}
 use lib.IntN.{ℤ}
 use lib.Seq.{set_at}
 use borrow.Author.Tests.{eq-eqb, ne_eqb, not-false}
-use Rattle.laws.specs.Lists.{splice, joined}
-use Rattle.laws.proofs.Lists.{splice-mid}
+use Rattle.laws.specs.Lists.{part, splice, joined}
+use Rattle.laws.proofs.Lists.{splice-mid, length_part}
 use Rattle.laws.specs.Tests.{within, differ, first}
 use Rattle.laws.proofs.Tests.{by-test, passed, same_of, or_l, or_r, within_of}
 use Rattle.model.specs.Numbers.{f0}
@@ -163,6 +163,21 @@ pairs-put L n x l h e q =
 pub no_number : div binary64 f0 f0 ≡ nan
 unfolding div of_bits
 no_number = refl
+
+-- the same, as the fills leave it
+pub pairs_put : (l : List Float) (n : ℕ) (x y : List Float) → 2 * n ≤ length l → x ≡ replicate (length l) f0
+    → let L = length l in
+    y ≡ replicate (length (part (L - 2 * n) (L - n - (L - 2 * n)) x)) (div binary64 f0 f0)
+    → splice (L - 2 * n) (L - n - (L - 2 * n)) x y ≡ fresh_f (L - 2 * n) n
+pairs_put l n x y h d e =
+    let L = length l in
+    let k : length x ≡ L = ap length d ∙ length-replicate L f0 in
+    let w : L - n - (L - 2 * n) ≡ n = omega arith in
+    let y' : y ≡ replicate n (div binary64 f0 f0) =
+    e ∙ ap (λ (j : ℕ). replicate j (div binary64 f0 f0)) (ap (λ (j : ℕ). length (part (L - 2 * n) j x)) w ∙ length_part (L - 2 * n) n x (omega arith)) in
+    ap (λ (j : ℕ). splice (L - 2 * n) j x y) w
+    ∙ ap (splice (L - 2 * n) n x) y'
+    ∙ pairs-put L n (div binary64 f0 f0) x h no_number d
 
 -- ---- how long the f64 store must be
 

@@ -3,44 +3,37 @@
 
 ghost use Rattle.std.specs.Prelude.{◌≡◌, true, ◌&&◌, ◌||◌, [], ◌-◌, ◌*◌, ◌<◌, ◌≤◌, length, get_or};
 ghost use Rattle.model.specs.Gate.{distinct};
-ghost use Rattle.model.specs.GateCalls.{good_lengths, good_level, absent, stored as storedAs, gate_make_refusal, gate_new_call};
+ghost use Rattle.model.specs.GateCalls.{good_lengths, good_level, absent, stored as stored_as, gate_make_refusal, gate_new_call};
+ghost use Rattle.refusals.specs.Numbers.{answer};
 ghost use Rattle.gate_lengths.specs.Makes.{length_put, with_lengths, fresh_u, fresh_f};
 ghost use Rattle.model.specs.GateCalls.{gate_f_len_for};
 
+use refusals::Refusal;
+
 // A level as the store has it: 800 is added. 65535 for one that is out of range.
 fn stored(level: i32) -> u16
-    ensures { result ≡ storedAs level }
+    ensures { result ≡ stored_as level }
 {
-    if level < -800 {
+    if level < -800 || level > 800 {
         return 65535;
     }
-    if level > 800 {
-        return 65535;
-    }
+    // What is cut to fewer bits here fits in them, which is proved.
     (level + 800) as u16
 }
 
 fn early_good(early: i32) -> bool
     ensures { result ≡ (absent early || good_level early) }
 {
-    if early == 65535 {
-        return true;
-    }
-    stored(early) <= 1600
+    early == 65535 || stored(early) <= 1600
 }
 
 fn levels_good(on: i32, off: i32, early: i32) -> bool
     ensures { result ≡ (good_level on && good_level off && (absent early || good_level early)) }
 {
-    if stored(on) > 1600 {
-        return false;
-    }
-    if stored(off) > 1600 {
-        return false;
-    }
-    early_good(early)
+    stored(on) <= 1600 && stored(off) <= 1600 && early_good(early)
 }
 
+#[tactic(auto, unfolding(model::specs::GateCalls::gate_make_refusal))]
 fn make_refusal(
     u_len: usize,
     f_len: usize,
@@ -49,25 +42,22 @@ fn make_refusal(
     off: i32,
     early: i32,
     lengths: &[u16],
-) -> u16
-    ensures { result ≡ gate_make_refusal u_len f_len n on off early lengths.now }
+) -> Result<(), Refusal>
+    ensures { answer result ≡ gate_make_refusal u_len f_len n on off early lengths.now }
 {
     if !store_sizes::in_band(n) {
-        return 1;
+        return Err(Refusal::Band);
     }
     if !gate_lengths::lengths_good(lengths) {
-        return 3;
+        return Err(Refusal::Lengths);
     }
     if !levels_good(on, off, early) {
-        return 4;
+        return Err(Refusal::Level);
     }
-    if u_len != 30 {
-        return 2;
+    if u_len != 30 || f_len != gate_lengths::floats_for(n, lengths) {
+        return Err(Refusal::StoreSize);
     }
-    if f_len != gate_lengths::floats_for(n, lengths) {
-        return 2;
-    }
-    0
+    Ok(())
 }
 
 // Length i takes the next triple, unless it was seen.
@@ -79,7 +69,7 @@ fn put_length(gate: &mut [u16], lengths: &[u16], i: usize)
         return;
     }
     let count = gate[5];
-    gate[6 + 3 * laws::wide(count)] = lengths[i];
+    gate[6 + 3 * usize::from(count)] = lengths[i];
     gate[5] = count + 1;
 }
 
@@ -87,10 +77,8 @@ fn put_lengths(gate: &mut [u16], lengths: &[u16])
     requires { (gate.old ≡ with_lengths gate.old []) × (good_lengths lengths.now ≡ true) }
     ensures { gate.new ≡ with_lengths gate.old (distinct [] lengths.now) }
 {
-    let mut i: usize = 0;
-    while i < lengths.len() {
+    for i in 0..lengths.len() {
         put_length(gate, lengths, i);
-        i += 1;
     }
 }
 
@@ -98,7 +86,7 @@ fn fresh_u(gate: &mut [u16], n: u16, on: u16, off: u16, early: u16, lengths: &[u
     requires { (length gate.old ≡ 30) × (good_lengths lengths.now ≡ true) }
     ensures { gate.new ≡ fresh_u n on off early (distinct [] lengths.now) }
 {
-    bank_making::zero(gate);
+    gate.fill(0);
     gate[0] = n;
     gate[2] = on;
     gate[3] = off;
@@ -112,11 +100,12 @@ fn fresh_f(gate_f: &mut [f64], n: usize)
     ensures { gate_f.new ≡ fresh_f (length gate_f.old - 2 * n) n }
 {
     let floats = gate_f.len();
-    bank_making::fill(gate_f, 0, floats, 0.0);
-    bank_making::fill(gate_f, floats - 2 * n, n, 0.0 / 0.0);
+    gate_f.fill(0.0);
+    gate_f[floats - 2 * n..floats - n].fill(0.0 / 0.0);
 }
 
-// Makes a fresh gate in the lent stores: 0, or the number of the refusal.
+// Makes a fresh gate in the lent stores.
+#[tactic(auto, using(crate::proofs::Makes::fit), unfolding(model::specs::GateCalls::gate_new_call))]
 pub fn gate_new(
     gate: &mut [u16],
     gate_f: &mut [f64],
@@ -125,15 +114,13 @@ pub fn gate_new(
     off: i32,
     early: i32,
     lengths: &[u16],
-) -> u16
-    ensures { (result, gate.new, gate_f.new) ≡ gate_new_call gate.old gate_f.old n on off early lengths.now }
+) -> Result<(), Refusal>
+    ensures { (answer result, gate.new, gate_f.new) ≡ gate_new_call gate.old gate_f.old n on off early lengths.now }
 {
-    let no = make_refusal(gate.len(), gate_f.len(), n, on, off, early, lengths);
-    if no != 0 {
-        return no;
-    }
+    make_refusal(gate.len(), gate_f.len(), n, on, off, early, lengths)?;
     fresh_u(
         gate,
+        // What is cut to fewer bits here fits in them, which is proved.
         n as u16,
         stored(on),
         stored(off),
@@ -141,10 +128,11 @@ pub fn gate_new(
         lengths,
     );
     fresh_f(gate_f, n);
-    0
+    Ok(())
 }
 
 // How many f64 a gate of n channels and these lengths takes; 0 where making refuses them.
+#[tactic(auto, unfolding(model::specs::GateCalls::gate_f_len_for))]
 pub fn gate_f_len(n: usize, lengths: &[u16]) -> usize
     ensures { result ≡ gate_f_len_for n lengths.now }
 {

@@ -19,10 +19,7 @@ const ABSENT: u16 = 65535;
 pub fn early_rise(early: u16, smoothed: f64, effective: f64) -> bool
     ensures { result ≡ (not (eqb early 65535) && le (add binary64 effective (level_of early)) smoothed) }
 {
-    if early == ABSENT {
-        return false;
-    }
-    smoothed >= effective + gate_pairs::level(early)
+    early != ABSENT && smoothed >= effective + gate_pairs::level(early)
 }
 
 // off: its level in dB.
@@ -44,18 +41,13 @@ fn mark_levels(
     requires { Paired bank.now bank_f.now gate.now gate_f.now × (length rise.old ≡ get_or gate.now 0 0) × (length drop.old ≡ get_or gate.now 0 0) }
     ensures { (rise.new ≡ tab (length rise.old) (λ k. one (early_rise (gate_of gate.now gate_f.now) (bank_of bank.now bank_f.now) k))) × (drop.new ≡ tab (length drop.old) (λ k. one (is_drop_at (gate_of gate.now gate_f.now) (bank_of bank.now bank_f.now) k))) }
 {
-    let n = rise.len();
     let early = gate[4];
     let off = gate_pairs::level(gate[3]);
-    let mut k: usize = 0;
-    while k < n {
+    for k in 0..rise.len() {
         let effective = channel_readings::effective_at(bank, bank_f, k);
         let smoothed = gate_f[k];
-        let rises = early_rise(early, smoothed, effective);
-        rise[k] = rises as u8;
-        let drops = drop_at(off, smoothed, effective);
-        drop[k] = drops as u8;
-        k += 1;
+        rise[k] = u8::from(early_rise(early, smoothed, effective));
+        drop[k] = u8::from(drop_at(off, smoothed, effective));
     }
 }
 
@@ -66,18 +58,16 @@ fn mark_windows(gate: &[u16], gate_f: &[f64], rise: &mut [u8])
     ensures { rise.new ≡ tab (length rise.old) (λ k. marked (get_or rise.old k 0) (window_rise (gate_of gate.now gate_f.now) k)) }
 {
     let n = rise.len();
-    let lengths = laws::wide(gate[5]);
+    let lengths = usize::from(gate[5]);
     let end = gate_f.len();
     let thresholds = end - n;
     let mut at = n;
-    let mut j: usize = 0;
-    while j < lengths {
+    for j in 0..lengths {
         let c = cursor(gate, j);
         let m = c.m;
         let e = at + (2 * m * n + n + n);
         window_rises::mark_look(&gate_f[at..e], c, &gate_f[thresholds..end], rise);
         at = e;
-        j += 1;
     }
 }
 
@@ -101,11 +91,7 @@ fn mark(
 fn clear(marks: &mut [u8])
     ensures { marks.new ≡ tab (length marks.old) (λ k. 0) }
 {
-    let mut k: usize = 0;
-    while k < marks.len() {
-        marks[k] = 0;
-        k += 1;
-    }
+    marks.fill(0);
 }
 
 // Before the first update nothing rises and nothing drops.
@@ -123,7 +109,7 @@ pub fn judge(
     if gate[1] == 0 {
         clear(rise);
         clear(drop);
-        return;
+    } else {
+        mark(bank, bank_f, gate, gate_f, rise, drop);
     }
-    mark(bank, bank_f, gate, gate_f, rise, drop);
 }

@@ -113,20 +113,20 @@ module _ (bu : List ℕ) (bf : List Float) (gu : List ℕ) (gf : List Float) (p 
 
 -- ---- a hold
 
-hold-unstarted-at : (t : ℕ) (g : Gate) (b : FloorBank) → t ≡ 0 → hold_at t g b ≡ g
-hold-unstarted-at zero g b e = refl
-hold-unstarted-at (suc t) g b e = absurd (omega arith)
+hold_unstarted_at : (t : ℕ) (g : Gate) (b : FloorBank) → t ≡ 0 → hold_at t g b ≡ g
+hold_unstarted_at zero g b e = refl
+hold_unstarted_at (suc t) g b e = absurd (omega arith)
 
-hold-started-at : (t : ℕ) (g : Gate) (b : FloorBank) → (t ≡ 0 → ⊥) → hold_at t g b ≡ refresh g b
-hold-started-at zero g b e = absurd (e refl)
-hold-started-at (suc t) g b e = refl
+hold_started_at : (t : ℕ) (g : Gate) (b : FloorBank) → (t ≡ 0 → ⊥) → hold_at t g b ≡ refresh g b
+hold_started_at zero g b e = absurd (e refl)
+hold_started_at (suc t) g b e = refl
 
 module _ (u : List ℕ) (f : List Float) (b : FloorBank) where
-  pub hold-unstarted : GateReady u f → get_or u 1 0 ≡ 0 → f ≡ gate_floats (hold_step (gate_of u f) b)
+  pub hold_unstarted : GateReady u f → get_or u 1 0 ≡ 0 → f ≡ gate_floats (hold_step (gate_of u f) b)
   unfolding hold_step
-  hold-unstarted r e =
-      sym (gate-forth-f u f r.long_f) ∙ ap gate_floats (sym (hold-unstarted-at (gate_of u f).started (gate_of u f) b (started_of u f ∙ e)))
+  hold_unstarted r e =
+      sym (gate-forth-f u f r.long_f) ∙ ap gate_floats (sym (hold_unstarted_at (gate_of u f).started (gate_of u f) b (started_of u f ∙ e)))
 
-  pub hold-started : (get_or u 1 0 ≡ 0 → ⊥) → refresh (gate_of u f) b ≡ hold_step (gate_of u f) b
+  pub hold_started : (get_or u 1 0 ≡ 0 → ⊥) → refresh (gate_of u f) b ≡ hold_step (gate_of u f) b
   unfolding hold_step
-  hold-started e = sym (hold-started-at (gate_of u f).started (gate_of u f) b (λ z. e (sym (started_of u f) ∙ z)))
+  hold_started e = sym (hold_started_at (gate_of u f).started (gate_of u f) b (λ z. e (sym (started_of u f) ∙ z)))

@@ -1,27 +1,14 @@
 -- The last 2n floats of a gate, channel after channel brought up to date: what k turns leave. Assumes nothing.
 use mathlib.Core.Path.{◌≡◌, refl, sym, ap, ap₂, subst, ◌∙◌}
-use mathlib.Core.Bool.{true, false}
 use mathlib.Core.List.{List, ◌++◌}
 use Prim.Native.Nat.{ℕ, ◌+◌, ◌*◌, ◌<◌, ◌≤◌}
 use native.Mathlib.Omega.{arith}
 use lib.ListN.{length, get_or, set, take, drop, length-set, length-drop, take-append-drop}
-use lib.Seq.{set-get_or, take-set-le, take-set-lt, drop-set-lt, drop-set-add, get_or-take, get_or-drop, length-take-le}
-use lib.Ieee.{Float, nan, binary64, add, ne}
+use lib.Seq.{take-set-le, take-set-lt, drop-set-lt, drop-set-add, get_or-take, get_or-drop, length-take-le}
+use lib.Ieee.{Float, nan}
 use Rattle.laws.specs.Lists.{tab}
 use Rattle.laws.proofs.Fills.{Filled, begins, unwritten, turns, done}
-use Rattle.model.specs.Ladder.{ladder}
 use Rattle.gate_pairs.specs.Renewed.{used_now, threshold_now, renewed, used_of, threshold_of}
-
--- ---- one channel
-
-module _ (p : List Float) (n k : ℕ) (x on : Float) where
-  pub renew-kept : ne x (get_or p k nan) ≡ false → p ≡ renewed p n k x on
-  unfolding renewed
-  renew-kept h = rw h (sym (ap (λ (q : List Float). set q (n + k) (get_or p (n + k) nan)) (set-get_or p k nan) ∙ set-get_or p (n + k) nan))
-
-  pub renew-done : ne x (get_or p k nan) ≡ true → (t : Float) → t ≡ ladder (add binary64 x on) → set (set p k x) (n + k) t ≡ renewed p n k x on
-  unfolding renewed
-  renew-done h t e = rw h (ap (set (set p k x) (n + k)) e)
 
 -- ---- the first k channels of rise, in q, which was p
 

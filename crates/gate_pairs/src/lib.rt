@@ -13,10 +13,11 @@ ghost use Rattle.gate_pairs.specs.Renewed.{renewed, used_of, threshold_of};
 pub fn level(x: u16) -> f64
     ensures { result ≡ level_of x }
 {
-    ((x as f64) - 800.0) / 8.0
+    (f64::from(x) - 800.0) / 8.0
 }
 
 // The pair of channel k, of n: the ladder is dear, and floors move at slow hops only. A NaN differs from itself.
+#[tactic(auto, unfolding(crate::specs::Renewed::renewed))]
 fn renew(pairs: &mut [f64], n: usize, k: usize, floor: f64, on: f64)
     requires { (length pairs.old ≡ 2 * n) × (k < n) }
     ensures { pairs.new ≡ renewed pairs.old n k floor on }
@@ -32,10 +33,8 @@ fn renew_all(pairs: &mut [f64], rise: &[f64], on: f64)
     ensures { pairs.new ≡ (tab (length rise.now) (used_of pairs.old rise.now) ++ tab (length rise.now) (threshold_of pairs.old rise.now on)) }
 {
     let n = rise.len();
-    let mut k: usize = 0;
-    while k < n {
-        renew(pairs, n, k, rise[k], on);
-        k += 1;
+    for (k, &floor) in rise.iter().enumerate() {
+        renew(pairs, n, k, floor, on);
     }
 }
 
@@ -44,7 +43,7 @@ pub fn refresh(bank: &[u16], bank_f: &[f64], gate: &[u16], gate_f: &mut [f64])
     requires { Paired bank.now bank_f.now gate.now gate_f.old }
     ensures { gate_f.new ≡ gate_floats (refresh (gate_of gate.now gate_f.old) (bank_of bank.now bank_f.now)) }
 {
-    let n = laws::wide(bank[0]);
+    let n = usize::from(bank[0]);
     let on = level(gate[2]);
     let end = gate_f.len();
     let at = end - 2 * n;
@@ -54,12 +53,12 @@ pub fn refresh(bank: &[u16], bank_f: &[f64], gate: &[u16], gate_f: &mut [f64])
 }
 
 // A hold before the first update changes nothing.
+#[tactic(auto, using(crate::proofs::Refreshed::hold_unstarted, crate::proofs::Refreshed::hold_started))]
 pub fn refresh_started(bank: &[u16], bank_f: &[f64], gate: &[u16], gate_f: &mut [f64])
     requires { Paired bank.now bank_f.now gate.now gate_f.old }
     ensures { gate_f.new ≡ gate_floats (hold_step (gate_of gate.now gate_f.old) (bank_of bank.now bank_f.now)) }
 {
-    if gate[1] == 0 {
-        return;
+    if gate[1] != 0 {
+        refresh(bank, bank_f, gate, gate_f);
     }
-    refresh(bank, bank_f, gate, gate_f);
 }

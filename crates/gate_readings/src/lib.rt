@@ -5,22 +5,22 @@ ghost use Rattle.std.specs.Prelude.{◌≡◌, not, ◌&&◌, ◌<◌, eqb, get_
 ghost use Rattle.std.specs.Float.{binary64};
 ghost use Rattle.std.specs.Float.Ieee.{of_int};
 ghost use Rattle.laws.specs.Lists.{one};
+ghost use Rattle.refusals.specs.Numbers.{numbered};
 ghost use Rattle.model.specs.Stores.{bank_of};
 ghost use Rattle.model.specs.Gate.{early_rise};
 ghost use Rattle.model.specs.GateStores.{gate_of};
 ghost use Rattle.model.specs.GateCalls.{smoothed_reading, early_reading};
 ghost use Rattle.gate_cursors.specs.Paired.{Paired};
 
+use refusals::Refusal;
+
 // The gate's smoothed dB of channel k.
-pub fn smoothed_db(gate: &[u16], gate_f: &[f64], k: usize) -> model::Reading
-    ensures { result ≡ smoothed_reading gate.now gate_f.now k }
+pub fn smoothed_db(gate: &[u16], gate_f: &[f64], k: usize) -> Result<f64, Refusal>
+    ensures { numbered result ≡ smoothed_reading gate.now gate_f.now k }
 {
-    let no = gate_store::smoothed_refusal(gate, gate_f, k);
-    if no != 0 {
-        return model::Reading::Refused(no);
-    }
+    gate_store::smoothed_refusal(gate, gate_f, k)?;
     let smoothed = gate_f[k];
-    model::Reading::Value(smoothed)
+    Ok(smoothed)
 }
 
 // Early rise as 1 or 0; before the first update there is none.
@@ -45,12 +45,9 @@ pub fn ema_rise(
     gate: &[u16],
     gate_f: &[f64],
     k: usize,
-) -> model::Reading
-    ensures { result ≡ early_reading bank.now bank_f.now gate.now gate_f.now k }
+) -> Result<f64, Refusal>
+    ensures { numbered result ≡ early_reading bank.now bank_f.now gate.now gate_f.now k }
 {
-    let no = gate_store::early_refusal(bank, bank_f, gate, gate_f, k);
-    if no != 0 {
-        return model::Reading::Refused(no);
-    }
-    model::Reading::Value(early_mark(bank, bank_f, gate, gate_f, k))
+    gate_store::early_refusal(bank, bank_f, gate, gate_f, k)?;
+    Ok(early_mark(bank, bank_f, gate, gate_f, k))
 }

@@ -6,16 +6,17 @@ ghost use Rattle.laws.specs.Lists.{tab};
 ghost use Rattle.model.specs.GateStores.{m_at};
 ghost use Rattle.model.specs.GateCalls.{gate_refusal, gate_new_call};
 ghost use Rattle.model.specs.Remake.{lengths_in, gate_remake_call};
+ghost use Rattle.refusals.specs.Numbers.{answer};
+
+use refusals::Refusal;
 
 // As many lengths of a gate as there is room for, in the order of the store.
 fn put_lengths(gate: &[u16], lengths: &mut [u16])
     requires { (length gate.now ≡ 30) × (length lengths.old ≤ 8) }
     ensures { lengths.new ≡ tab (length lengths.old) (m_at gate.now) }
 {
-    let mut j: usize = 0;
-    while j < lengths.len() {
+    for j in 0..lengths.len() {
         lengths[j] = gate[6 + 3 * j];
-        j += 1;
     }
 }
 
@@ -27,24 +28,28 @@ fn make_again(
     off: i32,
     early: i32,
     lengths: &mut [u16],
-) -> u16
+) -> Result<(), Refusal>
     requires { (gate_refusal gate.old gate_f.old ≡ 0) × (length lengths.old ≡ get_or gate.old 5 0) }
-    ensures { (result, gate.new, gate_f.new) ≡ gate_new_call gate.old gate_f.old (get_or gate.old 0 0) on off early (lengths_in gate.old) }
+    ensures { (answer result, gate.new, gate_f.new) ≡ gate_new_call gate.old gate_f.old (get_or gate.old 0 0) on off early (lengths_in gate.old) }
 {
     put_lengths(gate, lengths);
-    let n = laws::wide(gate[0]);
+    let n = usize::from(gate[0]);
     gate_making::gate_new(gate, gate_f, n, on, off, early, lengths)
 }
 
-// 0, or the number of the refusal.
-pub fn gate_remake(gate: &mut [u16], gate_f: &mut [f64], on: i32, off: i32, early: i32) -> u16
-    ensures { (result, gate.new, gate_f.new) ≡ gate_remake_call gate.old gate_f.old on off early }
+// What is no gate is refused and left alone.
+#[tactic(auto, unfolding(model::specs::Remake::gate_remake_call, model::specs::Remake::remake_refusal))]
+pub fn gate_remake(
+    gate: &mut [u16],
+    gate_f: &mut [f64],
+    on: i32,
+    off: i32,
+    early: i32,
+) -> Result<(), Refusal>
+    ensures { (answer result, gate.new, gate_f.new) ≡ gate_remake_call gate.old gate_f.old on off early }
 {
-    let no = gate_store::gate_refusal(gate, gate_f);
-    if no != 0 {
-        return no;
-    }
-    let count = laws::wide(gate[5]);
+    gate_store::gate_refusal(gate, gate_f)?;
+    let count = usize::from(gate[5]);
     let mut lengths: [u16; 8] = [0; 8];
     make_again(gate, gate_f, on, off, early, &mut lengths[..count])
 }

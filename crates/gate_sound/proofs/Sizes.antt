@@ -1,53 +1,24 @@
 -- Laws on the lengths of the gate's stores and on its refusals, each from the tests that lead to it. Assumes nothing.
-use mathlib.Core.Path.{◌≡◌, refl, sym, ap, ap₂, ◌∙◌}
+use mathlib.Core.Path.{◌≡◌, refl, ◌∙◌}
 use mathlib.Core.Bool.{Bool, true, false, not, ◌&&◌, ◌||◌}
 use mathlib.Core.List.{List}
-use Prim.Native.Nat.{ℕ, ◌+◌, ◌*◌, ◌<◌, ◌≤◌}
-use native.Mathlib.Nat.{mul-le-mul_right}
+use Prim.Native.Nat.{ℕ, ◌*◌, ◌<◌, ◌≤◌}
 use native.Mathlib.Omega.{arith}
-use native.Mathlib.Numerals.{add-one}
 use lib.Dec.{eqb, ltb, leb}
 use lib.ListN.{length, get_or}
 use lib.Ieee.{Float}
-use borrow.Author.Tests.{eq-eqb, ne_eqb, lt-ltb, le-ltb}
+use borrow.Author.Tests.{eq-eqb, ne_eqb, lt-ltb}
 use Rattle.laws.specs.Tests.{all_below, within, differ, first}
-use Rattle.laws.proofs.Tests.{and_l, and_r, and-false-l, all-at, passed, same_of, within_of, neither}
-use Rattle.model.specs.Refusals.{bank_refusal}
-use Rattle.model.specs.GateStores.{m_at, cursor_at, filled_at, look_size, look_start, gate_f_len, sound_level, sound_triple, new_length, sound_triples, sound_head, sound_gate}
-use Rattle.model.specs.GateCalls.{gate_refusal, pair_refusal}
-use Rattle.gate_sound.specs.Checks.{sound_length, unused_triple}
-
--- ---- lengths
-
--- the one product of two unknowns
-pub ring-small : (n m : ℕ) → n ≤ 512 → m ≤ 375 → 2 * m * n ≤ 384000
-ring-small n m h k = let z : 2 * m ≤ 750 = omega arith in omega (arith, mul-le-mul_right n z)
-
--- one length more: a turn of a loop that adds the floats up
-pub start-more : (n : ℕ) (m : ℕ → ℕ) (j x y : ℕ) → x ≡ look_start n m j → y ≡ look_size n (m j) → x + y ≡ look_start n m (j + 1)
-start-more n m j x y d e = rw (add-one j) (ap₂ ◌+◌ d e)
+use Rattle.laws.proofs.Tests.{and_l, and_r, all-at, passed, same_of, within_of}
+use Rattle.model.specs.GateStores.{m_at, cursor_at, filled_at, gate_f_len, sound_level, sound_triple, new_length, sound_triples, sound_head, sound_gate}
+use Rattle.model.specs.GateCalls.{gate_refusal}
+use Rattle.gate_sound.specs.Checks.{sound_length}
 
 -- ---- the u16 store
 
 pub triples-are : (u : List ℕ) → all_below 8 (sound_length u) ≡ sound_triples u
 unfolding sound_triples sound_length
 triples-are u = refl
-
-module _ (u : List ℕ) (j : ℕ) where
-  abbrev triple_at : Bool
-  triple_at = sound_triple (m_at u j) (cursor_at u j) (filled_at u j)
-
-  pub length-unused : get_or u 5 0 ≤ j → unused_triple (m_at u j) (cursor_at u j) (filled_at u j) ≡ sound_length u j
-  unfolding sound_length
-  length-unused h = rw (le-ltb j (get_or u 5 0) h)
-
-  pub triple-fails : j < get_or u 5 0 → triple_at ≡ false → false ≡ sound_length u j
-  unfolding sound_length
-  triple-fails h t = rw (lt-ltb j (get_or u 5 0) h) (sym (and-false-l triple_at (new_length (m_at u) j) t))
-
-  pub new-decides : j < get_or u 5 0 → triple_at ≡ true → new_length (m_at u) j ≡ sound_length u j
-  unfolding sound_length
-  new-decides h t = rw (lt-ltb j (get_or u 5 0) h) (ap (λ (b : Bool). b && new_length (m_at u) j) (sym t))
 
 in_use : (u : List ℕ) (j : ℕ) → j < get_or u 5 0 → sound_length u j ≡ true → m_at u j ≤ 375
 unfolding sound_length
@@ -87,14 +58,6 @@ sized u h =
       short = λ j k. in_use u j k (all-at (sound_length u) 8 j (triples-are u ∙ and_r (head_of u) (sound_triples u) h) (omega arith));
     }
 
-pub head-fails : (u : List ℕ) → head_of u ≡ false → false ≡ sound_gate u
-unfolding sound_gate
-head-fails u h = sym (and-false-l (head_of u) (sound_triples u) h)
-
-pub triples-decide : (u : List ℕ) → head_of u ≡ true → sound_triples u ≡ sound_gate u
-unfolding sound_gate
-triples-decide u h = ap (λ (b : Bool). b && sound_triples u) (sym h)
-
 -- ---- the gate
 
 module _ (u : List ℕ) (f : List Float) where
@@ -119,15 +82,3 @@ module _ (u : List ℕ) (f : List Float) where
   pub thirty : gate_refusal u f ≡ 0 → length u ≡ 30
   unfolding gate_refusal
   thirty e = same_of (length u) 30 (passed (differ (length u) 30) 2 (first (not (sound_gate u)) 9 (first (differ (length f) (gate_f_len u)) 2 0)) (omega arith) e).0
-
--- ---- bank and gate
-
-pub pair-passed : (bu : List ℕ) (bf : List Float) (gu : List ℕ) (gf : List Float) → pair_refusal bu bf gu gf ≡ 0
-    → (bank_refusal bu bf ≡ 0) × (gate_refusal gu gf ≡ 0)
-unfolding pair_refusal
-pair-passed bu bf gu gf e =
-    let p = neither (bank_refusal bu bf) (first (not (eqb (gate_refusal gu gf) 0)) (gate_refusal gu gf) (first (differ (get_or bu 0 0) (get_or gu 0 0)) 8 0)) e in
-    (p.0, (neither (gate_refusal gu gf) (first (differ (get_or bu 0 0) (get_or gu 0 0)) 8 0) p.1).0)
-
-pub pair-thirty : (bu : List ℕ) (bf : List Float) (gu : List ℕ) (gf : List Float) → pair_refusal bu bf gu gf ≡ 0 → length gu ≡ 30
-pair-thirty bu bf gu gf e = thirty gu gf (pair-passed bu bf gu gf e).1

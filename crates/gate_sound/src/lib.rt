@@ -8,71 +8,32 @@ ghost use Rattle.gate_sound.specs.Checks.{unused_triple, sound_length};
 fn early_sound(early: u16) -> bool
     ensures { result ≡ (eqb early 65535 || sound_level early) }
 {
-    if early == 65535 {
-        return true;
-    }
-    early <= 1600
+    early == 65535 || early <= 1600
 }
 
 fn head_sound(n: u16, started: u16, on: u16, off: u16, early: u16, count: u16) -> bool
     ensures { result ≡ sound_head n started on off early count }
 {
-    if n < 1 {
-        return false;
-    }
-    if n > 512 {
-        return false;
-    }
-    if started > 1 {
-        return false;
-    }
-    if on > 1600 {
-        return false;
-    }
-    if off > 1600 {
-        return false;
-    }
-    if !early_sound(early) {
-        return false;
-    }
-    if count < 1 {
-        return false;
-    }
-    count <= 8
+    n >= 1
+        && n <= 512
+        && started <= 1
+        && on <= 1600
+        && off <= 1600
+        && early_sound(early)
+        && count >= 1
+        && count <= 8
 }
 
 fn triple_sound(m: u16, cursor: u16, filled: u16) -> bool
     ensures { result ≡ sound_triple m cursor filled }
 {
-    if m < 1 {
-        return false;
-    }
-    if m > 375 {
-        return false;
-    }
-    let end = 2 * m;
-    if cursor >= end {
-        return false;
-    }
-    if filled > end {
-        return false;
-    }
-    if filled == end {
-        return true;
-    }
-    cursor == filled
+    m >= 1 && m <= 375 && cursor < 2 * m && filled <= 2 * m && (filled == 2 * m || cursor == filled)
 }
 
 fn unused(m: u16, cursor: u16, filled: u16) -> bool
     ensures { result ≡ unused_triple m cursor filled }
 {
-    if m != 0 {
-        return false;
-    }
-    if cursor != 0 {
-        return false;
-    }
-    filled == 0
+    m == 0 && cursor == 0 && filled == 0
 }
 
 // None of the lengths before length j equals it.
@@ -81,16 +42,15 @@ fn new_length(gate: &[u16], j: usize) -> bool
     ensures { result ≡ new_length (m_at gate.now) j }
 {
     let m = gate[6 + 3 * j];
-    let mut i: usize = 0;
-    while i < j {
+    for i in 0..j {
         if gate[6 + 3 * i] == m {
             return false;
         }
-        i += 1;
     }
     true
 }
 
+#[tactic(auto, unfolding(crate::specs::Checks::sound_length))]
 fn length_sound(gate: &[u16], j: usize) -> bool
     requires { (length gate.now ≡ 30) × (j < 8) }
     ensures { result ≡ sound_length gate.now j }
@@ -98,37 +58,31 @@ fn length_sound(gate: &[u16], j: usize) -> bool
     let m = gate[6 + 3 * j];
     let cursor = gate[6 + 3 * j + 1];
     let filled = gate[6 + 3 * j + 2];
-    if j >= laws::wide(gate[5]) {
-        return unused(m, cursor, filled);
+    if j < usize::from(gate[5]) {
+        triple_sound(m, cursor, filled) && new_length(gate, j)
+    } else {
+        unused(m, cursor, filled)
     }
-    if !triple_sound(m, cursor, filled) {
-        return false;
-    }
-    new_length(gate, j)
 }
 
 fn triples_sound(gate: &[u16]) -> bool
     requires { length gate.now ≡ 30 }
     ensures { result ≡ sound_triples gate.now }
 {
-    let mut j: usize = 0;
-    while j < 8 {
+    for j in 0..8 {
         if !length_sound(gate, j) {
             return false;
         }
-        j += 1;
     }
     true
 }
 
+#[tactic(auto, unfolding(model::specs::GateStores::sound_gate))]
 pub fn gate_sound(gate: &[u16]) -> bool
     requires { length gate.now ≡ 30 }
     ensures { result ≡ sound_gate gate.now }
 {
-    if !head_sound(gate[0], gate[1], gate[2], gate[3], gate[4], gate[5]) {
-        return false;
-    }
-    triples_sound(gate)
+    head_sound(gate[0], gate[1], gate[2], gate[3], gate[4], gate[5]) && triples_sound(gate)
 }
 
 // The floats of a length m over n channels.
@@ -144,13 +98,10 @@ pub fn f_len(gate: &[u16]) -> usize
     requires { (length gate.now ≡ 30) × (sound_gate gate.now ≡ true) }
     ensures { result ≡ gate_f_len gate.now }
 {
-    let n = laws::wide(gate[0]);
-    let count = laws::wide(gate[5]);
+    let n = usize::from(gate[0]);
     let mut floats = n;
-    let mut j: usize = 0;
-    while j < count {
-        floats += look_size(n, laws::wide(gate[6 + 3 * j]));
-        j += 1;
+    for j in 0..usize::from(gate[5]) {
+        floats += look_size(n, usize::from(gate[6 + 3 * j]));
     }
     floats + 2 * n
 }

@@ -16,11 +16,7 @@ fn start_db(smooth: &mut [f64], power_db: &[f64])
     requires { length power_db.now ≡ length smooth.old }
     ensures { smooth.new ≡ tab (length smooth.old) (λ k. get_or power_db.now k f0) }
 {
-    let mut k: usize = 0;
-    while k < smooth.len() {
-        smooth[k] = power_db[k];
-        k += 1;
-    }
+    smooth.copy_from_slice(power_db);
 }
 
 // Every later one.
@@ -28,10 +24,8 @@ fn follow_db(smooth: &mut [f64], power_db: &[f64])
     requires { length power_db.now ≡ length smooth.old }
     ensures { smooth.new ≡ tab (length smooth.old) (λ k. smoothed (get_or smooth.old k f0) (get_or power_db.now k f0)) }
 {
-    let mut k: usize = 0;
-    while k < smooth.len() {
-        smooth[k] = powers::smooth_step(smooth[k], power_db[k]);
-        k += 1;
+    for (k, kept) in smooth.iter_mut().enumerate() {
+        *kept = powers::smooth_step(*kept, power_db[k]);
     }
 }
 
@@ -42,28 +36,27 @@ fn smooth_db(gate_f: &mut [f64], gate: &[u16], power_db: &[f64])
     let n = power_db.len();
     if gate[1] == 0 {
         start_db(&mut gate_f[0..n], power_db);
-        return;
+    } else {
+        follow_db(&mut gate_f[0..n], power_db);
     }
-    follow_db(&mut gate_f[0..n], power_db);
 }
 
-// Each length takes the hop's samples: its windows stand one after another behind the smoothed dB.
+// Each length takes the hop's samples: its windows stand one after another behind the smoothed dB. `gate_marks` goes over them in such a loop,
+// too: one loop for both, with a closure, is no plainer, since a turn here writes cursor and part, and there it reads them.
 fn step_looks(gate: &mut [u16], gate_f: &mut [f64], samples: &[f64])
     requires { GateReady gate.old gate_f.old × (length samples.now ≡ get_or gate.old 0 0) }
     ensures { Holds (looks_step samples.now (gate_of gate.old gate_f.old)) gate.new gate_f.new }
 {
     let n = samples.len();
-    let lengths = laws::wide(gate[5]);
+    let lengths = usize::from(gate[5]);
     let mut at = n;
-    let mut j: usize = 0;
-    while j < lengths {
+    for j in 0..lengths {
         let c = cursor(gate, j);
         let m = c.m;
         let e = at + (2 * m * n + n + n);
         let next = windows::step_look(&mut gate_f[at..e], c, samples);
         put_cursor(gate, j, next);
         at = e;
-        j += 1;
     }
 }
 

@@ -2,69 +2,74 @@
 #![tactic(auto)]
 
 ghost use Rattle.std.specs.Prelude.{◌≡◌};
+ghost use Rattle.refusals.specs.Numbers.{answer};
 ghost use Rattle.model.specs.GateCalls.{gate_refusal, pair_refusal, gate_update_refusal, hold_refusal};
 ghost use Rattle.gate_sound.specs.Checks.{two_long, four_long, channel_refusal, smoothed_refusal, early_refusal};
 
-// Whether the lent stores are a gate: 0, or the number of the refusal.
-pub fn gate_refusal(gate: &[u16], gate_f: &[f64]) -> u16
-    ensures { result ≡ gate_refusal gate.now gate_f.now }
+use refusals::Refusal;
+
+// Whether the lent stores are a gate.
+#[tactic(auto, unfolding(model::specs::GateCalls::gate_refusal))]
+pub fn gate_refusal(gate: &[u16], gate_f: &[f64]) -> Result<(), Refusal>
+    ensures { answer result ≡ gate_refusal gate.now gate_f.now }
 {
     if gate.len() != 30 {
-        return 2;
+        return Err(Refusal::StoreSize);
     }
     if !gate_sound::gate_sound(gate) {
-        return 9;
+        return Err(Refusal::Unsound);
     }
     if gate_f.len() != gate_sound::f_len(gate) {
-        return 2;
+        return Err(Refusal::StoreSize);
     }
-    0
+    Ok(())
 }
 
 // Whether they are a bank and a gate of as many channels.
-pub fn pair_refusal(bank: &[u16], bank_f: &[f64], gate: &[u16], gate_f: &[f64]) -> u16
-    ensures { result ≡ pair_refusal bank.now bank_f.now gate.now gate_f.now }
+#[tactic(auto, using(stores::proofs::Banks::at_least_three, gate_sound::proofs::Sizes::thirty), unfolding(model::specs::GateCalls::pair_refusal))]
+pub fn pair_refusal(
+    bank: &[u16],
+    bank_f: &[f64],
+    gate: &[u16],
+    gate_f: &[f64],
+) -> Result<(), Refusal>
+    ensures { answer result ≡ pair_refusal bank.now bank_f.now gate.now gate_f.now }
 {
-    let no_bank = stores::bank_refusal(bank, bank_f);
-    if no_bank != 0 {
-        return no_bank;
+    stores::bank_refusal(bank, bank_f)?;
+    gate_refusal(gate, gate_f)?;
+    if bank[0] != gate[0] {
+        return Err(Refusal::Mismatch);
     }
-    let no_gate = gate_refusal(gate, gate_f);
-    if no_gate != 0 {
-        return no_gate;
-    }
-    if bank[0] == gate[0] {
-        return 0;
-    }
-    8
+    Ok(())
 }
 
 // The lengths that a hold asks for, and an update.
-pub fn two_long(n: usize, rise: usize, drop: usize) -> u16
-    ensures { result ≡ two_long n rise drop }
+pub fn two_long(n: usize, rise: usize, drop: usize) -> Result<(), Refusal>
+    ensures { answer result ≡ two_long n rise drop }
 {
-    if rise != n {
-        return 5;
+    if rise != n || drop != n {
+        return Err(Refusal::HopSize);
     }
-    if drop != n {
-        return 5;
-    }
-    0
+    Ok(())
 }
 
-pub fn four_long(n: usize, power_db: usize, power: usize, rise: usize, drop: usize) -> u16
-    ensures { result ≡ four_long n power_db power rise drop }
+pub fn four_long(
+    n: usize,
+    power_db: usize,
+    power: usize,
+    rise: usize,
+    drop: usize,
+) -> Result<(), Refusal>
+    ensures { answer result ≡ four_long n power_db power rise drop }
 {
-    if power_db != n {
-        return 5;
-    }
-    if power != n {
-        return 5;
+    if power_db != n || power != n {
+        return Err(Refusal::HopSize);
     }
     two_long(n, rise, drop)
 }
 
 // Whether a bank and a gate take a gate update with slices of these lengths.
+#[tactic(auto, using(crate::proofs::Pairs::pair_thirty), unfolding(model::specs::GateCalls::gate_update_refusal))]
 pub fn gate_update_refusal(
     bank: &[u16],
     bank_f: &[f64],
@@ -74,17 +79,15 @@ pub fn gate_update_refusal(
     power: usize,
     rise: usize,
     drop: usize,
-) -> u16
-    ensures { result ≡ gate_update_refusal bank.now bank_f.now gate.now gate_f.now power_db power rise drop }
+) -> Result<(), Refusal>
+    ensures { answer result ≡ gate_update_refusal bank.now bank_f.now gate.now gate_f.now power_db power rise drop }
 {
-    let no_pair = pair_refusal(bank, bank_f, gate, gate_f);
-    if no_pair != 0 {
-        return no_pair;
-    }
-    four_long(laws::wide(gate[0]), power_db, power, rise, drop)
+    pair_refusal(bank, bank_f, gate, gate_f)?;
+    four_long(usize::from(gate[0]), power_db, power, rise, drop)
 }
 
 // Whether they take a hold.
+#[tactic(auto, using(crate::proofs::Pairs::pair_thirty), unfolding(model::specs::GateCalls::hold_refusal))]
 pub fn hold_refusal(
     bank: &[u16],
     bank_f: &[f64],
@@ -92,43 +95,42 @@ pub fn hold_refusal(
     gate_f: &[f64],
     rise: usize,
     drop: usize,
-) -> u16
-    ensures { result ≡ hold_refusal bank.now bank_f.now gate.now gate_f.now rise drop }
+) -> Result<(), Refusal>
+    ensures { answer result ≡ hold_refusal bank.now bank_f.now gate.now gate_f.now rise drop }
 {
-    let no_pair = pair_refusal(bank, bank_f, gate, gate_f);
-    if no_pair != 0 {
-        return no_pair;
-    }
-    two_long(laws::wide(gate[0]), rise, drop)
+    pair_refusal(bank, bank_f, gate, gate_f)?;
+    two_long(usize::from(gate[0]), rise, drop)
 }
 
-fn channel_refusal(n: usize, k: usize) -> u16
-    ensures { result ≡ channel_refusal n k }
+fn channel_refusal(n: usize, k: usize) -> Result<(), Refusal>
+    ensures { answer result ≡ channel_refusal n k }
 {
-    if k < n {
-        return 0;
+    if k >= n {
+        return Err(Refusal::Channel);
     }
-    7
+    Ok(())
 }
 
 // Whether the gate has a smoothed dB of channel k.
-pub fn smoothed_refusal(gate: &[u16], gate_f: &[f64], k: usize) -> u16
-    ensures { result ≡ smoothed_refusal gate.now gate_f.now k }
+#[tactic(auto, using(gate_sound::proofs::Sizes::thirty))]
+pub fn smoothed_refusal(gate: &[u16], gate_f: &[f64], k: usize) -> Result<(), Refusal>
+    ensures { answer result ≡ smoothed_refusal gate.now gate_f.now k }
 {
-    let no = gate_refusal(gate, gate_f);
-    if no != 0 {
-        return no;
-    }
-    channel_refusal(laws::wide(gate[0]), k)
+    gate_refusal(gate, gate_f)?; // The store first: its n says which channels there are.
+    channel_refusal(usize::from(gate[0]), k)
 }
 
 // Whether bank and gate have an early rise of channel k.
-pub fn early_refusal(bank: &[u16], bank_f: &[f64], gate: &[u16], gate_f: &[f64], k: usize) -> u16
-    ensures { result ≡ early_refusal bank.now bank_f.now gate.now gate_f.now k }
+#[tactic(auto, using(crate::proofs::Pairs::pair_thirty))]
+pub fn early_refusal(
+    bank: &[u16],
+    bank_f: &[f64],
+    gate: &[u16],
+    gate_f: &[f64],
+    k: usize,
+) -> Result<(), Refusal>
+    ensures { answer result ≡ early_refusal bank.now bank_f.now gate.now gate_f.now k }
 {
-    let no_pair = pair_refusal(bank, bank_f, gate, gate_f);
-    if no_pair != 0 {
-        return no_pair;
-    }
-    channel_refusal(laws::wide(gate[0]), k)
+    pair_refusal(bank, bank_f, gate, gate_f)?;
+    channel_refusal(usize::from(gate[0]), k)
 }

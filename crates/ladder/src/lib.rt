@@ -6,9 +6,7 @@ ghost use Rattle.model.specs.Layout.{rungs_below, rungs_above};
 ghost use Rattle.model.specs.Ring.{floor_held};
 ghost use Rattle.model.specs.Ladder.{held, ceil_held, rung, rung_value, ladder};
 
-use model::layout::{
-    LADDER_MAX_DB, LADDER_MIN_DB, PAST_RUNGS_F64, RUNGS_ABOVE_U16, RUNGS_BELOW, RUNGS_BELOW_U16,
-};
+use model::layout::{LADDER_MAX_DB, LADDER_MIN_DB, PAST_RUNGS_F64, RUNGS_ABOVE_U16, RUNGS_BELOW};
 
 mod tables;
 
@@ -18,6 +16,7 @@ fn floor_held(x: f64) -> u16
 {
     if x >= 0.0 {
         if x < PAST_RUNGS_F64 {
+            // What is cut to fewer bits here fits in them, which is proved.
             std::num::truncating_f64_to_u64(x) as u16
         } else {
             RUNGS_ABOVE_U16
@@ -33,12 +32,12 @@ fn ceil_held(x: f64) -> u16
 {
     let t = floor_held(x);
     if t >= RUNGS_ABOVE_U16 {
-        return RUNGS_ABOVE_U16;
+        RUNGS_ABOVE_U16
+    } else if f64::from(t) < x {
+        t + 1
+    } else {
+        t
     }
-    if (t as f64) < x {
-        return t + 1;
-    }
-    t
 }
 
 // The least whole number not below z, and RUNGS_BELOW. An eighth of a dB is a rung; below 0 dB the floor of -z is as far above.
@@ -46,40 +45,33 @@ fn rung(z: f64) -> usize
     ensures { (result ≡ rung z) × (result ≤ rungs_below + rungs_above) }
 {
     if z >= 0.0 {
-        return RUNGS_BELOW + laws::wide(ceil_held(z));
+        RUNGS_BELOW + usize::from(ceil_held(z))
+    } else {
+        RUNGS_BELOW.saturating_sub(usize::from(floor_held(-z)))
     }
-    let t = floor_held(-z);
-    if t >= RUNGS_BELOW_U16 {
-        return 0;
-    }
-    RUNGS_BELOW - laws::wide(t)
 }
 
 fn rung_value(r: usize) -> f64
     requires { r ≤ rungs_below + rungs_above }
     ensures { result ≡ rung_value r }
 {
+    // No From leads to f64 from so wide a number.
     tables::root(r % 80) as f64 * tables::ten(r / 80)
 }
 
 fn held(s: f64) -> f64
     ensures { result ≡ held s }
 {
-    if s < LADDER_MIN_DB {
-        return LADDER_MIN_DB;
-    }
-    if s > LADDER_MAX_DB {
-        return LADDER_MAX_DB;
-    }
-    s
+    s.clamp(LADDER_MIN_DB, LADDER_MAX_DB)
 }
 
 // 10^(s/10), by eighths of a dB, upward.
 pub fn ladder(s: f64) -> f64
     ensures { result ≡ ladder s }
 {
-    if s != s {
-        return s;
+    if s.is_nan() {
+        s
+    } else {
+        rung_value(rung(8.0 * held(s)))
     }
-    rung_value(rung(8.0 * held(s)))
 }

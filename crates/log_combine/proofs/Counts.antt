@@ -1,6 +1,9 @@
 -- A log read from its first hop on, hop by hop: what is known after some hops, and what an answer then tells. Assumes nothing.
+use Rattle.std.specs.Prelude.{Option, Some, None, Result, Ok, Err}
 use mathlib.Core.Path.{◌≡◌, refl, sym, ap, ap₂, ◌∙◌}
+use mathlib.Core.Bool.{Bool, true, false}
 use mathlib.Core.List.{List, ◌∷◌}
+use Rattle.std.specs.Result.{is_err}
 use Prim.Native.Nat.{ℕ, zero, suc, ◌+◌, ◌-◌, ◌*◌, ◌/◌, ◌<◌, ◌≤◌}
 use native.Mathlib.Nat.{mul-zero, mul-suc, mul-div_right}
 use native.Mathlib.Numerals.{add-one}
@@ -9,13 +12,12 @@ use lib.ListN.{length, length-append, take, replicate}
 use Rattle.laws.specs.Lists.{tab, tab_from}
 use Rattle.laws.proofs.Tabs.{length-tab}
 use Rattle.low_first.specs.LowFirst.{low_two}
+use Rattle.refusals.specs.Numbers.{answer}
+use Rattle.refusals.specs.declared.Refusal.{Refusal}
 use Rattle.log_model.specs.Read.{pair_at, db_after, read_hop, start_refusal}
 use Rattle.log_model.specs.Whole.{Reading, onward, read_on, read_log}
-use Rattle.log_model.specs.declared.LogRead.{LogRead}
-use Rattle.log_model.specs.declared.LogRead.TheVariants as R
-use Rattle.log_model.proofs.Answers.{started, whole, read-refused}
+use Rattle.log_model.proofs.Answers.{some_number, started, whole, read-refused}
 use Rattle.log_model.proofs.Inverse.{read-tells, end-tells}
-use Rattle.combine_model.specs.declared.HopCount.TheVariants as H
 use Rattle.combine_model.specs.Combined.{counted, hop_count, db_of, power_of}
 
 -- so many hops were read and the slices hold the last; what is read from `at` on is the rest
@@ -38,11 +40,11 @@ begins log db power e f =
     }
 
 -- what the reader said, and which answer it was
-pub told : (a b : LogRead) (d p : List ℕ) (x : Reading) → ◌≡◌ {A = Reading} (a, d, p) x → a ≡ b → ◌≡◌ {A = Reading} x (b, d, p)
-told a b d p x e f = sym e ∙ ap (λ (y : LogRead). (y, d, p)) f
+pub told : (a b : Result (Option ℕ) ℕ) (d p : List ℕ) (x : Reading) → ◌≡◌ {A = Reading} (a, d, p) x → a ≡ b → ◌≡◌ {A = Reading} x (b, d, p)
+told a b d p x e f = sym e ∙ ap (λ (y : Result (Option ℕ) ℕ). (y, d, p)) f
 
 -- a hop that was read takes a byte, and lies in the log
-pub onto : (log : List ℕ) (at : ℕ) (db power : List ℕ) (next : ℕ) (d p : List ℕ) → read_hop log at db power ≡ (R.Next next, d, p) → (at < next) × (next ≤ length log)
+pub onto : (log : List ℕ) (at : ℕ) (db power : List ℕ) (next : ℕ) (d p : List ℕ) → read_hop log at db power ≡ (Ok (Some next), d, p) → (at < next) × (next ≤ length log)
 unfolding pair_at
 onto log at db power next d p e =
     let r = read-tells log at db power next d p e in
@@ -56,11 +58,11 @@ module _ (log db power : List ℕ) (at hops : ℕ) (c : Counting log db power at
   unfolding read_on
   rest-is r e = ap (λ (x : Reading). onward x (read_on c.more log)) e
 
-  pub next-counts : (next : ℕ) (d p : List ℕ) → read_hop log at db power ≡ (R.Next next, d, p) → Counting log d p next (hops + 1)
+  pub next-counts : (next : ℕ) (d p : List ℕ) → read_hop log at db power ≡ (Ok (Some next), d, p) → Counting log d p next (hops + 1)
   next-counts next d p e =
       let o = onto log at db power next d p e in
       let r = read-tells log at db power next d p e in
-      let z = rest-is (R.Next next, d, p) e in
+      let z = rest-is (Ok (Some next), d, p) e in
       let n : ℕ = low_two log 0 in
       let m : ℕ = c.more - 1 in
       let y : c.more ≡ suc m = omega (arith, c.enough, o.0, o.1) in
@@ -84,25 +86,25 @@ module _ (log db power : List ℕ) (at hops : ℕ) (c : Counting log db power at
             );
       }
 
-  pub end-counts : (d p : List ℕ) → read_hop log at db power ≡ (R.End, d, p) → H.Count hops ≡ hop_count log
+  pub end-counts : (d p : List ℕ) → read_hop log at db power ≡ (Ok None, d, p) → Ok hops ≡ hop_count log
   unfolding hop_count
   end-counts d p e =
-      let z = rest-is (R.End, d, p) e in
+      let z = rest-is (Ok None, d, p) e in
       let n : ℕ = low_two log 0 in
       let s = started log at (length db) (length power) (end-tells log at db power d p e).0 in
       let l : length (db_of log) ≡ n * hops = omega (arith, c.long, ap (λ (x : Reading). length x.1) z) in
       sym
-      (ap (λ (a : LogRead). counted n (a, db_of log, power_of log)) (c.answer ∙ ap (λ (x : Reading). x.0) z)
-      ∙ ap H.Count (ap (λ (k : ℕ). k / n) l ∙ mul-div_right hops s.some))
+      (ap (λ (a : Result (Option ℕ) ℕ). counted n (a, db_of log, power_of log)) (c.answer ∙ ap (λ (x : Reading). x.0) z)
+      ∙ ap Ok (ap (λ (k : ℕ). k / n) l ∙ mul-div_right hops s.some))
 
-  pub refused-counts : (r : ℕ) (d p : List ℕ) → read_hop log at db power ≡ (R.Refused r, d, p) → H.Refused r ≡ hop_count log
+  pub refused-counts : (r : ℕ) (d p : List ℕ) → read_hop log at db power ≡ (Err r, d, p) → Err r ≡ hop_count log
   unfolding hop_count
   refused-counts r d p e =
-      let z = rest-is (R.Refused r, d, p) e in
-      sym (ap (λ (a : LogRead). counted (low_two log 0) (a, db_of log, power_of log)) (c.answer ∙ ap (λ (x : Reading). x.0) z))
+      let z = rest-is (Err r, d, p) e in
+      sym (ap (λ (a : Result (Option ℕ) ℕ). counted (low_two log 0) (a, db_of log, power_of log)) (c.answer ∙ ap (λ (x : Reading). x.0) z))
 
 -- a log that is refused before its first hop
-pub header-counts : (log : List ℕ) (r : ℕ) → r ≡ start_refusal log 2 (low_two log 0) (low_two log 0) → (r ≡ 0 → ⊥) → H.Refused r ≡ hop_count log
+pub header-counts : (log : List ℕ) (r : ℕ) → r ≡ start_refusal log 2 (low_two log 0) (low_two log 0) → (r ≡ 0 → ⊥) → Err r ≡ hop_count log
 header-counts log r e h =
     let n : ℕ = low_two log 0 in
     let zs : List ℕ = tab n (λ _. 0) in
@@ -125,3 +127,12 @@ take-zeros n m k h e = from 0 n m h ∙ ap (λ (i : ℕ). tab i (λ _. 0)) e
 
 pub zeros-long : (n m : ℕ) → n ≤ m → n ≡ length (take {A = ℕ} n (replicate m 0))
 zeros-long n m h = sym (ap length (take-zeros n m n h refl) ∙ length-tab n (λ _. 0))
+
+-- whether a call refused, as its number tells
+pub refused : (r : Result (Unit {0}) Refusal) (b : Bool) → b ≡ is_err r → b ≡ true → answer r ≡ 0 → ⊥
+refused (Ok u) b e t h = cc
+refused (Err x) b e t h = some_number x h
+
+pub passed : (r : Result (Unit {0}) Refusal) (b : Bool) → b ≡ is_err r → b ≡ false → answer r ≡ 0
+passed (Ok u) b e t = refl
+passed (Err x) b e t = cc

@@ -1,32 +1,30 @@
 -- Both logs in step. Assumes nothing.
+use Rattle.std.specs.Prelude.{Some, Ok}
 use mathlib.Core.Path.{◌≡◌, refl, sym, ap, subst, ◌∙◌}
 use mathlib.Core.Bool.{Bool, cond, ◌||◌}
 use mathlib.Core.List.{List, ◌++◌, append-nil}
 use Prim.Native.Nat.{ℕ, ◌+◌, ◌-◌, ◌*◌, ◌/◌, ◌<◌, ◌≤◌}
 use native.Mathlib.Omega.{arith}
-use lib.ListN.{set, length, get_or, length-append, drop_of_length-le, get_or-append}
-use lib.Seq.{get_or-append-add}
+use Rattle.std.proofs.Common.{get_or-drop}
+use lib.ListN.{length, get_or, drop, length-drop, length-append, drop_of_length-le, get_or-append}
+use lib.Seq.{get_or-append-add, drop-append_seam}
 use borrow.Author.Tests.{le-ltb}
-use Rattle.laws.specs.Lists.{splice, tab, joined}
+use Rattle.laws.specs.Lists.{tab, joined}
 use Rattle.laws.specs.Tests.{differ, tally}
-use Rattle.laws.proofs.Lists.{get_d_past}
-use Rattle.laws.proofs.Tabs.{length-tab, get_d-tab, tab-ext, fill-next, joined-next}
+use Rattle.laws.proofs.Tabs.{length-tab, get_d-tab, tab-ext, tab-get_d, joined-next}
 use Rattle.low_first.specs.LowFirst.{low_two}
 use Rattle.laws.specs.Bits.{width}
 use Rattle.log_model.specs.Format.{hop_of, before, changed, hop_at}
 use Rattle.log_model.specs.Read.{read_hop}
 use Rattle.log_model.specs.Whole.{Reading, Below, Hops}
-use Rattle.log_model.specs.declared.LogRead.TheVariants.{Next}
 use Rattle.laws.proofs.Tallies.{tally-ext}
 use Rattle.log_model.proofs.Lengths.{hop-within, hop-fits, log-parts, length_at}
 use Rattle.log_model.proofs.NoOther.{hop-ext}
 use Rattle.log_model.proofs.RoundTrip.{read_one, first-before, next-before}
-use Rattle.combine_model.specs.declared.HopCount.TheVariants as H
 use Rattle.combine_model.specs.Choose.{is_second, chosen_at, selected}
 use Rattle.combine_model.specs.Combined.{hop_count, db_of, power_of, db_chosen, power_chosen, combined_log, Paired}
-use Rattle.log_model.specs.Answers.{place_after}
-use Rattle.combine_choose.specs.Lent.{Lent}
-use Rattle.log_combine.specs.Passes.{second_half, Ready}
+use Rattle.refusals.specs.Readings.{some_or}
+use Rattle.log_combine.specs.Passes.{second_half, Lent, Ready}
 use Rattle.combine_model.proofs.Chosen.{selected-at, length-selected}
 use Rattle.combine_model.proofs.Taken.{hops-of, log_is}
 use Rattle.combine_model.proofs.Theorems.{count-tells, takes}
@@ -40,13 +38,16 @@ two-halves n p q l m k e f g h i =
     ∙ ap (λ (r : List ℕ). (p ++ q) ++ r) (drop_of_length-le l (let z : length l ≤ length (p ++ q) = omega (arith, length-append p q) in z))
     ∙ append-nil (p ++ q)
 
--- one place more of the second half was copied to the first
-pub back-next : (n k : ℕ) (l₀ l : List ℕ) → k < n → length l₀ ≡ n + n → l ≡ splice 0 k l₀ (tab k (λ i. get_or l₀ (n + i) 0))
-    → set l k (get_or l (n + k) 0) ≡ splice 0 (k + 1) l₀ (tab (k + 1) (λ i. get_or l₀ (n + i) 0))
-back-next n k l₀ l h e f =
-    fill-next 0 k k l₀ l (λ i. get_or l₀ (n + i) 0) (get_or l (n + k) 0) (omega arith) (omega arith) f
-    (ap (λ (r : List ℕ). get_or r (n + k) 0) f
-    ∙ get_d_past 0 k l₀ (tab k (λ i. get_or l₀ (n + i) 0)) (n + k) 0 (length-tab k (λ i. get_or l₀ (n + i) 0)) (omega arith) (omega arith))
+-- what a step back leaves is the second half, written over the first
+pub stepped : (n : ℕ) (l m : List ℕ) → length l ≡ n + n → m ≡ drop n l ++ drop n l → m ≡ put 0 (second_half n l) m
+stepped n l m h e =
+    let p : List ℕ = second_half n l in
+    let half : drop n l ≡ p =
+    sym
+    (tab-ext n (λ k. get_or l (n + k) 0) (λ k. get_or (drop n l) k 0) (λ k _. sym (get_or-drop n l k 0))
+    ∙ tab-get_d (drop n l) 0 n (omega (arith, length-drop n l))) in
+    let s : m ≡ p ++ p = e ∙ ap (λ (r : List ℕ). r ++ r) half in
+    s ∙ ap (λ (r : List ℕ). p ++ r) (sym (drop-append_seam p p) ∙ ap (drop (length p)) (sym s)) ∙ sym (put_front p m)
 
 -- ---- one log: hop j is next, and the slices hold the hop before it
 
@@ -64,7 +65,7 @@ pub record Stands (log : List ℕ) (n j at : ℕ) (db power : List ℕ) : Type 0
   pub db_is : db ≡ before_on n j (db_of log)
   pub power_is : power ≡ before_on n j (power_of log)
 
-module _ (log : List ℕ) (n h : ℕ) (bound : Below 256 log) (e : hop_count log ≡ H.Count h) (same : low_two log 0 ≡ n) where
+module _ (log : List ℕ) (n h : ℕ) (bound : Below 256 log) (e : hop_count log ≡ Ok h) (same : low_two log 0 ≡ n) where
   hops : Hops (low_two log 0) (db_of log) (power_of log)
   hops = hops-of log bound (count-tells log h e).0
 
@@ -77,7 +78,7 @@ module _ (log : List ℕ) (n h : ℕ) (bound : Below 256 log) (e : hop_count log
       }
 
   pub reads : (j at : ℕ) (db power : List ℕ) → j < h → Stands log n j at db power
-      → read_hop log at db power ≡ (Next (place_of log (j + 1)), hop_on n j (db_of log), hop_on n j (power_of log))
+      → read_hop log at db power ≡ (Ok (Some (place_of log (j + 1))), hop_on n j (db_of log), hop_on n j (power_of log))
   reads j at db power l s =
       let m : ℕ = low_two log 0 in
       let D : List ℕ = db_of log in
@@ -85,15 +86,15 @@ module _ (log : List ℕ) (n h : ℕ) (bound : Below 256 log) (e : hop_count log
       let z : j < length D / m = subst (λ (k : ℕ). j < k) (count-tells log h e).1 l in
       (λ i. read_hop (log_is log bound (count-tells log h e).0 i) (s.at_is i) ((s.db_is ∙ ap (λ (k : ℕ). before_on k j D) (sym same)) i) ((s.power_is ∙ ap (λ (k : ℕ). before_on k j P) (sym same)) i))
       ∙ read_one m D P hops j z
-      ∙ ap (λ (k : ℕ). (Next (place_of log (j + 1)), hop_on k j D, hop_on k j P)) same
+      ∙ ap (λ (k : ℕ). (Ok (Some (place_of log (j + 1))), hop_on k j D, hop_on k j P)) same
 
   pub stands-next : (j at : ℕ) (db power : List ℕ) → j < h → Stands log n j at db power → (x : ℕ) (d p : List ℕ)
-      → x ≡ place_after (read_hop log at db power).0 at → d ≡ (read_hop log at db power).1 → p ≡ (read_hop log at db power).2 → Stands log n (j + 1) x d p
+      → x ≡ some_or at (read_hop log at db power).0 → d ≡ (read_hop log at db power).1 → p ≡ (read_hop log at db power).2 → Stands log n (j + 1) x d p
   stands-next j at db power l s x d p f g k =
       let r = reads j at db power l s in
       let nb : (q : List ℕ) → hop_on n j q ≡ before_on n (j + 1) q = λ q. subst (λ (m : ℕ). hop_on m j q ≡ before_on m (j + 1) q) same (next-before (low_two log 0) (db_of log) (power_of log) hops j q) in
       record {
-        at_is = f ∙ ap (λ (y : Reading). place_after y.0 at) r;
+        at_is = f ∙ ap (λ (y : Reading). some_or at y.0) r;
         db_is = g ∙ ap (λ (y : Reading). y.1) r ∙ nb (db_of log);
         power_is = k ∙ ap (λ (y : Reading). y.2) r ∙ nb (power_of log);
       }
@@ -259,7 +260,7 @@ module _ (a b : List ℕ) (h : ℕ) (f : Below 256 a) (g : Below 256 b) (w : Pai
         (record { p_long = s.1 ∙ sym s.0; e_long = t.0 ∙ sym s.0; q_long = t.1 ∙ sym s.0 }, (omega (arith, v.db_long, s.0), omega (arith, v.power_long, s.0)))
 
     module _ (l : j < h) (x' y' : ℕ) (d' p' e' q' db' power' : List ℕ)
-        (places : (x' ≡ place_after (read_hop a x d p).0 x) × (y' ≡ place_after (read_hop b y e q).0 y))
+        (places : (x' ≡ some_or x (read_hop a x d p).0) × (y' ≡ some_or y (read_hop b y e q).0))
         (ones : (d' ≡ (read_hop a x d p).1) × (p' ≡ (read_hop a x d p).2))
         (twos : (e' ≡ (read_hop b y e q).1) × (q' ≡ (read_hop b y e q).2))
         (dbs : db' ≡ second_half (length d) db ++ tab (length d) (chosen_at p' q' d' e'))

@@ -1,4 +1,5 @@
 -- The first pass over both logs: what is known after some hops, and what it may say when it stops. Assumes nothing.
+use Rattle.std.specs.Prelude.{Option, Some, None, Ok, Err}
 use mathlib.Core.Path.{◌≡◌, refl, sym, ap, ap₂, subst, ◌∙◌}
 use mathlib.Core.Bool.{Bool, true, false, cond, ◌&&◌}
 use mathlib.Core.List.{List, ◌++◌}
@@ -12,20 +13,16 @@ use Rattle.laws.specs.Bits.{width}
 use Rattle.laws.specs.Tests.{tally}
 use Rattle.laws.proofs.Tests.{by-test, clash, and_l, and_r, and-true}
 use Rattle.low_first.specs.LowFirst.{low_two}
-use Rattle.log_model.specs.Answers.{place_after}
+use Rattle.refusals.specs.Readings.{some_or}
 use Rattle.log_model.specs.Format.{changed}
 use Rattle.log_model.specs.Read.{start_refusal, read_hop}
 use Rattle.log_model.specs.Whole.{Reading, Below}
-use Rattle.log_model.specs.declared.LogRead.TheVariants as R
 use Rattle.log_model.proofs.Answers.{Started, started, starts, read-end}
 use Rattle.log_model.proofs.Lengths.{log-parts}
-use Rattle.combine_model.specs.declared.HopCount.TheVariants as H
 use Rattle.combine_model.specs.Choose.{chosen_at}
 use Rattle.combine_model.specs.Combined.{hop_count, db_of, power_of, db_chosen, power_chosen, combined_log, Paired}
 use Rattle.combine_model.proofs.Taken.{began, log_is}
 use Rattle.combine_model.proofs.Theorems.{count-tells}
-use Rattle.log_combine.specs.declared.Fit.{Fit}
-use Rattle.log_combine.specs.declared.Fit.TheVariants.{Fits, Not}
 use Rattle.log_combine.specs.Passes.{second_half, Slices, Judged}
 use Rattle.log_combine.proofs.Counts.{Counting, begins, onto, next-counts, end-counts}
 use Rattle.log_combine.proofs.InStep.{Stands, place_of, reads, Walk, walk_begins, walk-shows, walk-next, shown-tally, combined-parts, combined-within}
@@ -34,18 +31,18 @@ use Rattle.log_combine.proofs.InStep.{Stands, place_of, reads, Walk, walk_begins
 
 -- a place that moved: a hop was read
 pub moved : (log : List ℕ) (at : ℕ) (db power : List ℕ) (x : ℕ) (d p : List ℕ)
-    → x ≡ place_after (read_hop log at db power).0 at → d ≡ (read_hop log at db power).1 → p ≡ (read_hop log at db power).2 → at < x
-    → read_hop log at db power ≡ (R.Next x, d, p)
+    → x ≡ some_or at (read_hop log at db power).0 → d ≡ (read_hop log at db power).1 → p ≡ (read_hop log at db power).2 → at < x
+    → read_hop log at db power ≡ (Ok (Some x), d, p)
 moved log at db power x d p e f g l = go (read_hop log at db power) refl
   where
-    go : (r : Reading) → read_hop log at db power ≡ r → read_hop log at db power ≡ (R.Next x, d, p)
-    go (R.Next y, d', p') k =
+    go : (r : Reading) → read_hop log at db power ≡ r → read_hop log at db power ≡ (Ok (Some x), d, p)
+    go (Ok (Some y), d', p') k =
         k
-        ∙ (λ i. (R.Next ((sym (e ∙ ap (λ (r : Reading). place_after r.0 at) k)) i), (sym (f ∙ ap (λ (r : Reading). r.1) k)) i, (sym (g ∙ ap (λ (r : Reading). r.2) k)) i))
-    go (R.End, d', p') k = absurd (let z : x ≡ at = e ∙ ap (λ (r : Reading). place_after r.0 at) k in omega arith)
-    go (R.Refused n, d', p') k = absurd (let z : x ≡ at = e ∙ ap (λ (r : Reading). place_after r.0 at) k in omega arith)
+        ∙ (λ i. (Ok (Some ((sym (e ∙ ap (λ (r : Reading). some_or at r.0) k)) i)), (sym (f ∙ ap (λ (r : Reading). r.1) k)) i, (sym (g ∙ ap (λ (r : Reading). r.2) k)) i))
+    go (Ok None, d', p') k = absurd (let z : x ≡ at = e ∙ ap (λ (r : Reading). some_or at r.0) k in omega arith)
+    go (Err n, d', p') k = absurd (let z : x ≡ at = e ∙ ap (λ (r : Reading). some_or at r.0) k in omega arith)
 
-module _ (log : List ℕ) (n h : ℕ) (bound : Below 256 log) (e : hop_count log ≡ H.Count h) (same : low_two log 0 ≡ n) where
+module _ (log : List ℕ) (n h : ℕ) (bound : Below 256 log) (e : hop_count log ≡ Ok h) (same : low_two log 0 ≡ n) where
   -- after its last hop a log stands at its end
   pub stands-end : (j at : ℕ) (db power : List ℕ) → Stands log n j at db power → j ≡ h → at ≡ length log
   stands-end j at db power s z =
@@ -58,11 +55,11 @@ module _ (log : List ℕ) (n h : ℕ) (bound : Below 256 log) (e : hop_count log
       by-test (ltb j h) (ltb-true j h) (λ t. absurd (let z : h ≤ j = ltb-false j h t in omega (arith, stands-end j at db power s (omega arith), l)))
 
   -- and the hop that it stands before takes bytes of it
-  pub stands-moves : (j at : ℕ) (db power : List ℕ) → Stands log n j at db power → j < h → (at < place_after (read_hop log at db power).0 at) × (at < length log)
+  pub stands-moves : (j at : ℕ) (db power : List ℕ) → Stands log n j at db power → j < h → (at < some_or at (read_hop log at db power).0) × (at < length log)
   stands-moves j at db power s l =
       let r = reads log n h bound e same j at db power l s in
       let o = onto log at db power _ _ _ r in
-      (subst (λ (x : ℕ). at < x) (sym (ap (λ (y : Reading). place_after y.0 at) r)) o.0, omega (arith, o.0, o.1))
+      (subst (λ (x : ℕ). at < x) (sym (ap (λ (y : Reading). some_or at y.0) r)) o.0, omega (arith, o.0, o.1))
 
 -- ---- what the code's tests tell
 
@@ -111,7 +108,7 @@ module _ (a b : List ℕ) (f : Below 256 a) (g : Below 256 b) (sa : start_refusa
   module _ (x y len hops : ℕ) (d p e q db power : List ℕ) (v : Judging a b x y len hops d p e q db power) where
     -- a turn of both, while both stand before their ends
     module _ (before : (ltb x (length a) && ltb y (length b)) ≡ true) (x' y' : ℕ) (d' p' e' q' db' power' : List ℕ)
-        (places : (x' ≡ place_after (read_hop a x d p).0 x) × (y' ≡ place_after (read_hop b y e q).0 y))
+        (places : (x' ≡ some_or x (read_hop a x d p).0) × (y' ≡ some_or y (read_hop b y e q).0))
         (ones : (d' ≡ (read_hop a x d p).1) × (p' ≡ (read_hop a x d p).2))
         (twos : (e' ≡ (read_hop b y e q).1) × (q' ≡ (read_hop b y e q).2))
         (dbs : db' ≡ second_half (length d) db ++ tab (length d) (chosen_at p' q' d' e'))
@@ -134,7 +131,7 @@ module _ (a b : List ℕ) (f : Below 256 a) (g : Below 256 b) (sa : start_refusa
           }
 
       -- two logs that pass move on, so only room can be missing
-      pub judging-stops : (room : ℕ) → len ≤ room → (ltb x x' && (ltb y y' && leb more (room - len))) ≡ false → Judged a b room Not
+      pub judging-stops : (room : ℕ) → len ≤ room → (ltb x x' && (ltb y y' && leb more (room - len))) ≡ false → Judged a b room None
       judging-stops room i t h w =
           let u = v.walk h w in
           let l = next-hop h w in
@@ -156,32 +153,32 @@ module _ (a b : List ℕ) (f : Below 256 a) (g : Below 256 b) (sa : start_refusa
 
     -- no turn is left
     module _ (room : ℕ) (fits : len ≤ room) (dl : length d ≡ n) (pl : length p ≡ n) (el : length e ≡ n) (ql : length q ≡ n) where
-      ended-a : x ≡ length a → H.Count hops ≡ hop_count a
+      ended-a : x ≡ length a → Ok hops ≡ hop_count a
       ended-a z =
           end-counts a d p x hops v.count_a d p
           (sym (read-end a x d p
           (starts a x n (length d) (length p) refl record { header = started-a.header; some = started-a.some; most = started-a.most; dbs_long = dl; powers_long = pl; from = omega (arith, v.count_a.few); to = v.to_a })
           z))
 
-      ended-b : y ≡ length b → H.Count hops ≡ hop_count b
+      ended-b : y ≡ length b → Ok hops ≡ hop_count b
       ended-b z =
           end-counts b e q y hops v.count_b e q
           (sym (read-end b y e q
           (starts b y n (length e) (length q) (sym same_n) record { header = started-b.header; some = started-a.some; most = started-a.most; dbs_long = el; powers_long = ql; from = omega (arith, v.count_b.few); to = v.to_b })
           z))
 
-      both-ended : x ≡ length a → y ≡ length b → Judged a b room (Fits hops)
+      both-ended : x ≡ length a → y ≡ length b → Judged a b room (Some hops)
       both-ended s t =
           let w : Paired a b hops = record { count_a = sym (ended-a s); count_b = sym (ended-b t); same_n = same_n } in
           (w, omega (arith, combined-parts a b hops f g w, (v.walk hops w).len_is, fits))
 
-      pub judging-ends : (ltb x (length a) && ltb y (length b)) ≡ false → (r : Fit) → r ≡ cond (eqb x (length a) && eqb y (length b)) (Fits hops) Not → Judged a b room r
+      pub judging-ends : (ltb x (length a) && ltb y (length b)) ≡ false → (r : Option ℕ) → r ≡ cond (eqb x (length a) && eqb y (length b)) (Some hops) None → Judged a b room r
       judging-ends t r i =
           by-test ends
           (λ u.
-          subst (Judged a b room) (sym (i ∙ ap (λ (s : Bool). cond s (Fits hops) Not) u))
+          subst (Judged a b room) (sym (i ∙ ap (λ (s : Bool). cond s (Some hops) None) u))
           (both-ended (eqb-true x (length a) (and_l (eqb x (length a)) (eqb y (length b)) u)) (eqb-true y (length b) (and_r (eqb x (length a)) (eqb y (length b)) u))))
-          (λ u. subst (Judged a b room) (sym (i ∙ ap (λ (s : Bool). cond s (Fits hops) Not) u)) (λ h w. refuted u h w))
+          (λ u. subst (Judged a b room) (sym (i ∙ ap (λ (s : Bool). cond s (Some hops) None) u)) (λ h w. refuted u h w))
         where
           ends : Bool
           ends = eqb x (length a) && eqb y (length b)
@@ -205,13 +202,13 @@ module _ (a b : List ℕ) (f : Below 256 a) (g : Below 256 b) (sa : start_refusa
 -- ---- before the first turn
 
 module _ (a b : List ℕ) (f : Below 256 a) (g : Below 256 b) (room : ℕ) where
-  pub no_room : room < 2 → Judged a b room Not
+  pub no_room : room < 2 → Judged a b room None
   no_room l h w = omega (arith, l, combined-parts a b h f g w)
 
-  pub no-first : (r : ℕ) → r ≡ start_refusal a 2 (low_two a 0) (low_two a 0) → (r ≡ 0 → ⊥) → Judged a b room Not
+  pub no-first : (r : ℕ) → r ≡ start_refusal a 2 (low_two a 0) (low_two a 0) → (r ≡ 0 → ⊥) → Judged a b room None
   no-first r e k h w = absurd (k (e ∙ starts a 2 (low_two a 0) (low_two a 0) (low_two a 0) refl (began a (count-tells a h w.count_a).0)))
 
-  pub no_second : (r : ℕ) → r ≡ start_refusal b 2 (low_two a 0) (low_two a 0) → (r ≡ 0 → ⊥) → Judged a b room Not
+  pub no_second : (r : ℕ) → r ≡ start_refusal b 2 (low_two a 0) (low_two a 0) → (r ≡ 0 → ⊥) → Judged a b room None
   no_second r e k h w =
       absurd
       (k (e ∙ starts b 2 (low_two a 0) (low_two a 0) (low_two a 0) (sym w.same_n) (subst (λ (m : ℕ). Started b 2 m m m) (sym w.same_n) (began b (count-tells b h w.count_b).0))))

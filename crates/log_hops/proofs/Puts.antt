@@ -4,8 +4,10 @@ use mathlib.Core.List.{List, [], ◌++◌}
 use Prim.Native.Nat.{ℕ, ◌+◌, ◌≤◌}
 use native.Mathlib.Omega.{arith}
 use lib.ListN.{length, drop, length-append}
-use Rattle.laws.specs.Lists.{splice, tab}
-use Rattle.laws.proofs.Lists.{length-splice, splice-none, splice-more}
+use borrow.Rule.Slice.PartMut.{put_mid}
+use Rattle.laws.specs.Lists.{part, splice, tab}
+use Rattle.laws.proofs.Lists.{length_part, length-splice, splice-none, splice-more}
+use Rattle.laws.proofs.Fills.{Filled, done}
 use Rattle.laws.proofs.Tabs.{length-tab}
 use Rattle.log_hops.specs.Put.{put}
 
@@ -28,10 +30,14 @@ pub put_next : (at a w : ℕ) (p q l m : List ℕ) → length p ≡ w → a ≡ 
 put_next at a w p q l m e f g h =
     ap₂ (λ (i : ℕ) (r : List ℕ). put i q r) (let z : a ≡ at + length p = omega arith in z) g ∙ put-more at p q l (omega arith)
 
--- what a loop that writes entry by entry has written
-pub put-tab : (at k : ℕ) (l : List ℕ) (f : ℕ → ℕ) → splice at k l (tab k f) ≡ put at (tab k f) l
+-- what a loop over a part of the list that writes entry by entry leaves
+pub put-part : (at v w k : ℕ) (l m : List ℕ) (f : ℕ → ℕ) → v ≡ w → at + w ≤ length l → Filled (part at v l) f k m → v ≤ k
+    → put_mid at v l m ≡ put at (tab w f) l
 unfolding put
-put-tab at k l f = ap (λ (w : ℕ). splice at w l (tab k f)) (sym (length-tab k f))
+put-part at v w k l m f e h filled all =
+    let long : length (part at v l) ≡ v = length_part at v l (omega arith) in
+    ap (splice at v l) (done (part at v l) f k m filled (omega (arith, long)) ∙ ap (λ (n : ℕ). tab n f) (long ∙ e))
+    ∙ ap (λ (n : ℕ). splice at n l (tab w f)) (e ∙ sym (length-tab w f))
 
 -- from the list's front on
 pub put_front : (p l : List ℕ) → put 0 p l ≡ p ++ drop (length p) l

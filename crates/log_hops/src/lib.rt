@@ -1,49 +1,24 @@
 // Document 02, R-1: the bytes of one hop, for the writer of a log.
 #![tactic(auto)]
 
-ghost use Rattle.std.specs.Prelude.{◌≡◌, ◌&&◌, ◌+◌, ◌*◌, ◌%◌, ◌<◌, ◌≤◌, ltb, length, get_or};
+ghost use Rattle.std.specs.Prelude.{◌≡◌, cond, ◌&&◌, ◌+◌, ◌-◌, ◌*◌, ◌%◌, ◌<◌, ◌≤◌, ltb, length, get_or};
 ghost use Rattle.laws.specs.Bits.{width, byte};
 ghost use Rattle.laws.specs.Tests.{tally};
 ghost use Rattle.low_first.specs.LowFirst.{low_bytes};
-ghost use Rattle.log_model.specs.Format.{map_of, pair_of, pairs_of, hop_of, before, changed};
+ghost use Rattle.log_model.specs.Format.{map_of, pair_of, pairs_of, hop_of, changed};
 ghost use Rattle.log_hops.specs.Put.{put};
+ghost use Rattle.log_hops.specs.Hop.{marked, db_bits, power_bits};
 
-// What stood at place i in the hop before.
-fn db_before(n: usize, db: &[u64], i: usize) -> u64
-    requires { i < length db.now }
-    ensures { result ≡ before n db.now i }
-{
-    if i < n {
-        return 0;
-    }
-    db[i - n]
-}
+mod lent;
 
-fn power_before(n: usize, power: &[u32], i: usize) -> u32
-    requires { i < length power.now }
-    ensures { result ≡ before n power.now i }
-{
-    if i < n {
-        return 0;
-    }
-    power[i - n]
-}
+pub use lent::Pairs;
 
-// The pair at place i is another than in the hop before.
-pub fn is_changed(n: usize, db: &[u64], power: &[u32], i: usize) -> bool
-    requires { (i < length db.now) × (length power.now ≡ length db.now) }
-    ensures { result ≡ changed n db.now power.now i }
+// What stood at place i in the hop before; before the first hop all are zero.
+fn before<T: Copy>(n: usize, items: &[T], zero: T, i: usize) -> T
+    requires { i < length items.now }
+    ensures { result ≡ cond (ltb i n) zero (get_or items.now (i - n) zero) }
 {
-    if db[i] != db_before(n, db, i) {
-        return true;
-    }
-    power[i] != power_before(n, power, i)
-}
-
-fn low_byte(x: u64) -> u8
-    ensures { result ≡ x % 256 }
-{
-    (x % 256) as u8
+    if i < n { zero } else { items[i - n] }
 }
 
 // The bytes of x, the lowest first.
@@ -52,46 +27,10 @@ pub fn put_low(log: &mut [u8], at: usize, width: usize, x: u64)
     ensures { log.new ≡ put at (low_bytes width x) log.old }
 {
     let mut rest = x;
-    for i in 0..width {
-        log[at + i] = low_byte(rest);
-        rest = rest / 256;
-    }
-}
-
-// Whether bit k is set in the map of the hop that begins at place `from`.
-fn is_marked(n: usize, db: &[u64], power: &[u32], from: usize, k: usize) -> bool
-    requires { (from + n ≤ length db.now) × (length power.now ≡ length db.now) }
-    ensures { result ≡ ltb k n && changed n db.now power.now (from + k) }
-{
-    if k >= n {
-        return false;
-    }
-    is_changed(n, db, power, from + k)
-}
-
-// Byte b of that map.
-fn map_byte(n: usize, db: &[u64], power: &[u32], from: usize, b: usize) -> u8
-    requires { (from + n ≤ length db.now) × ((length power.now ≡ length db.now) × (b < 64)) }
-    ensures { result ≡ byte (λ j. ltb (8 * b + j) n && changed n db.now power.now (from + (8 * b + j))) }
-{
-    let first = 8 * b;
-    let mut k = first + 8;
-    let mut byte: usize = 0;
-    while k > first {
-        k -= 1;
-        byte = byte * 2 + laws::one(is_marked(n, db, power, from, k));
-    }
-    byte as u8
-}
-
-fn put_map(n: usize, db: &[u64], power: &[u32], from: usize, log: &mut [u8], at: usize)
-    requires n_in_bounds { (from + n ≤ length db.now) × ((length power.now ≡ length db.now) × (n ≤ 512)) }
-    requires n_in_bounds_2 { at + width n ≤ length log.old }
-    ensures { log.new ≡ put at (map_of n (λ k. changed n db.now power.now (from + k))) log.old }
-{
-    let width = laws::width(n);
-    for b in 0..width {
-        log[at + b] = map_byte(n, db, power, from, b);
+    for byte in log[at..at + width].iter_mut() {
+        // What is cut to fewer bits here fits in them, which is proved.
+        *byte = (rest % 256) as u8;
+        rest /= 256;
     }
 }
 
@@ -100,34 +39,72 @@ fn put_pair(log: &mut [u8], at: usize, db: u64, power: u32)
     ensures { log.new ≡ put at (pair_of db power) log.old }
 {
     put_low(log, at, 8, db);
-    put_low(log, at + 8, 4, power as u64);
+    put_low(log, at + 8, 4, u64::from(power));
 }
 
-// The changed pairs; the answer is where they end.
-fn put_pairs(n: usize, db: &[u64], power: &[u32], from: usize, log: &mut [u8], at: usize) -> usize
-    requires n_in_bounds { (from + n ≤ length db.now) × (length power.now ≡ length db.now) }
-    requires k_in_bounds { at + 12 * tally n (λ k. changed n db.now power.now (from + k)) ≤ length log.old }
-    ensures value { result ≡ at + 12 * tally n (λ k. changed n db.now power.now (from + k)) }
-    ensures log_after { log.new ≡ put at (pairs_of n (λ k. changed n db.now power.now (from + k)) (λ k. get_or db.now (from + k) 0) (λ k. get_or power.now (from + k) 0)) log.old }
-{
-    let mut pair = at;
-    for k in 0..n {
-        let i = from + k;
-        if is_changed(n, db, power, i) {
-            put_pair(log, pair, db[i], power[i]);
-            pair += 12;
+impl Pairs<'_> {
+    // The pair at place i is another than in the hop before.
+    pub fn is_changed(&self, i: usize) -> bool
+        requires { i < length self.now.db.now }
+        ensures { result ≡ changed self.now.n self.now.db.now self.now.power.now i }
+    {
+        self.db[i] != before(self.n, self.db, 0, i)
+            || self.power[i] != before(self.n, self.power, 0, i)
+    }
+
+    // Byte b of the map of the hop that begins at place `from`: whether each of eight pairs changed, the first in the lowest bit.
+    fn map_byte(&self, from: usize, b: usize) -> u8
+        requires hop { from + self.now.n ≤ length self.now.db.now }
+        requires few { b < 64 }
+        ensures { result ≡ byte (λ j. ltb (8 * b + j) self.now.n && marked self.now from (8 * b + j)) }
+    {
+        let mut byte = 0;
+        for j in 0..8 {
+            let k = 8 * b + j;
+            if k < self.n && self.is_changed(from + k) {
+                byte += 1 << j;
+            }
+        }
+        byte
+    }
+
+    fn put_map(&self, from: usize, log: &mut [u8], at: usize)
+        requires hop { (from + self.now.n ≤ length self.now.db.now) × (self.now.n ≤ 512) }
+        requires room { at + width self.now.n ≤ length log.old }
+        ensures { log.new ≡ put at (map_of self.now.n (marked self.now from)) log.old }
+    {
+        let width = self.n.div_ceil(8);
+        for (b, byte) in log[at..at + width].iter_mut().enumerate() {
+            *byte = self.map_byte(from, b);
         }
     }
-    pair
-}
 
-// The hop that begins at place `from`; the answer is where it ends.
-pub fn put_hop(n: usize, db: &[u64], power: &[u32], from: usize, log: &mut [u8], at: usize) -> usize
-    requires n_in_bounds { (from + n ≤ length db.now) × ((length power.now ≡ length db.now) × (n ≤ 512)) }
-    requires k_in_bounds { at + (width n + 12 * tally n (λ k. changed n db.now power.now (from + k))) ≤ length log.old }
-    ensures value { result ≡ at + (width n + 12 * tally n (λ k. changed n db.now power.now (from + k))) }
-    ensures log_after { log.new ≡ put at (hop_of n (λ k. changed n db.now power.now (from + k)) (λ k. get_or db.now (from + k) 0) (λ k. get_or power.now (from + k) 0)) log.old }
-{
-    put_map(n, db, power, from, log, at);
-    put_pairs(n, db, power, from, log, at + laws::width(n))
+    // The changed pairs; the answer is where they end.
+    fn put_pairs(&self, from: usize, log: &mut [u8], at: usize) -> usize
+        requires hop { from + self.now.n ≤ length self.now.db.now }
+        requires room { at + 12 * tally self.now.n (marked self.now from) ≤ length log.old }
+        ensures value { result ≡ at + 12 * tally self.now.n (marked self.now from) }
+        ensures log_after { log.new ≡ put at (pairs_of self.now.n (marked self.now from) (db_bits self.now from) (power_bits self.now from)) log.old }
+    {
+        let mut pair = at;
+        for k in 0..self.n {
+            let i = from + k;
+            if self.is_changed(i) {
+                put_pair(log, pair, self.db[i], self.power[i]);
+                pair += 12;
+            }
+        }
+        pair
+    }
+
+    // The hop that begins at place `from`; the answer is where it ends.
+    pub fn put_hop(&self, from: usize, log: &mut [u8], at: usize) -> usize
+        requires hop { (from + self.now.n ≤ length self.now.db.now) × (self.now.n ≤ 512) }
+        requires room { at + (width self.now.n + 12 * tally self.now.n (marked self.now from)) ≤ length log.old }
+        ensures value { result ≡ at + (width self.now.n + 12 * tally self.now.n (marked self.now from)) }
+        ensures log_after { log.new ≡ put at (hop_of self.now.n (marked self.now from) (db_bits self.now from) (power_bits self.now from)) log.old }
+    {
+        self.put_map(from, log, at);
+        self.put_pairs(from, log, at + self.n.div_ceil(8))
+    }
 }

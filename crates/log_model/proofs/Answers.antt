@@ -1,4 +1,5 @@
 -- The reader's answer, case by case: from the tests that led there to the answer, and back. Assumes nothing.
+use Rattle.std.specs.Prelude.{Some, None, Ok, Err}
 use mathlib.Core.Path.{◌≡◌, refl, sym, ap, ◌∙◌}
 use mathlib.Core.Bool.{false}
 use mathlib.Core.List.{List}
@@ -12,8 +13,29 @@ use Rattle.laws.specs.Tests.{any_below}
 use Rattle.laws.specs.Bits.{width}
 use Rattle.laws.proofs.Tests.{passed, past, inside, agrees, same_of, within_of, goes_on, neither}
 use Rattle.low_first.specs.LowFirst.{low_two}
-use Rattle.log_model.specs.declared.LogRead.TheVariants.{Next, End, Refused}
+use Rattle.refusals.specs.Numbers.{number_of}
+use Rattle.refusals.specs.declared.Refusal.{Refusal}
+use Rattle.refusals.specs.declared.Refusal.TheVariants as R
 use Rattle.log_model.specs.Read.{is_set, pair_at, unchanged, header_refusal, start_refusal, hop_refusal, db_after, power_after, read_in, read_hop}
+
+-- no refusal has the number 0
+pub some_number : (r : Refusal) → number_of r ≡ 0 → ⊥
+some_number R.Band e = omega arith
+some_number R.StoreSize e = omega arith
+some_number R.Lengths e = omega arith
+some_number R.Level e = omega arith
+some_number R.HopSize e = omega arith
+some_number R.Garbled e = omega arith
+some_number R.Channel e = omega arith
+some_number R.Mismatch e = omega arith
+some_number R.Unsound e = omega arith
+some_number R.Cut e = omega arith
+some_number R.Damaged e = omega arith
+some_number R.Span e = omega arith
+some_number R.Unlike e = omega arith
+some_number R.Segments e = omega arith
+some_number R.Address e = omega arith
+some_number R.Right e = omega arith
 
 -- what is known once the checks before a hop have passed
 pub record Started (log : List ℕ) (at n dbs powers : ℕ) : Type 0 where
@@ -101,11 +123,11 @@ module _ (log : List ℕ) (at : ℕ) (db power : List ℕ) where
   abbrev start : ℕ
   start = start_refusal log at (length db) (length power)
 
-  pub read-refused : (r : ℕ) → r ≡ start → (r ≡ 0 → ⊥) → (Refused r, db, power) ≡ read_hop log at db power
+  pub read-refused : (r : ℕ) → r ≡ start → (r ≡ 0 → ⊥) → (Err r, db, power) ≡ read_hop log at db power
   unfolding read_hop
-  read-refused r e h = ap (λ (v : ℕ). (Refused v, db, power)) e ∙ rw (ne_eqb start 0 (λ z. h (e ∙ z)))
+  read-refused r e h = ap (λ (v : ℕ). (Err v, db, power)) e ∙ rw (ne_eqb start 0 (λ z. h (e ∙ z)))
 
-  pub read-end : start ≡ 0 → at ≡ length log → (End, db, power) ≡ read_hop log at db power
+  pub read-end : start ≡ 0 → at ≡ length log → (Ok None, db, power) ≡ read_hop log at db power
   unfolding read_hop
   read-end e h = rw (eq-eqb start 0 e, eq-eqb at (length log) h)
 
@@ -114,11 +136,11 @@ module _ (log : List ℕ) (at : ℕ) (db power : List ℕ) where
   read-in e h = rw (eq-eqb start 0 e, ne_eqb at (length log) h)
 
   module _ (n : ℕ) where
-    pub in-refused : (r : ℕ) → r ≡ hop_refusal log at n db power → (r ≡ 0 → ⊥) → (Refused r, db, power) ≡ read_in log at n db power
+    pub in-refused : (r : ℕ) → r ≡ hop_refusal log at n db power → (r ≡ 0 → ⊥) → (Err r, db, power) ≡ read_in log at n db power
     unfolding read_in
-    in-refused r e h = ap (λ (v : ℕ). (Refused v, db, power)) e ∙ rw (ne_eqb (hop_refusal log at n db power) 0 (λ z. h (e ∙ z)))
+    in-refused r e h = ap (λ (v : ℕ). (Err v, db, power)) e ∙ rw (ne_eqb (hop_refusal log at n db power) 0 (λ z. h (e ∙ z)))
 
     pub in-next : hop_refusal log at n db power ≡ 0
-        → (Next (pair_at log at n n), tab n (db_after log at n db), tab n (power_after log at n power)) ≡ read_in log at n db power
+        → (Ok (Some (pair_at log at n n)), tab n (db_after log at n db), tab n (power_after log at n power)) ≡ read_in log at n db power
     unfolding read_in
     in-next e = rw (eq-eqb (hop_refusal log at n db power) 0 e)

@@ -1,4 +1,5 @@
 -- A hop that stands in a log: what the reader finds there. Assumes nothing.
+use Rattle.std.specs.Prelude.{Some, Ok}
 use mathlib.Core.Path.{◌≡◌, refl, sym, ap, ap₂, ◌∙◌}
 use mathlib.Core.Bool.{Bool, true, false, cond, not, ◌&&◌, ◌||◌}
 use mathlib.Core.List.{List, [], ◌++◌, append_assoc}
@@ -19,7 +20,6 @@ use Rattle.laws.proofs.Tallies.{tally-le, tally-room, tally-ext}
 use Rattle.laws.proofs.Bits.{bits_of, bits-front, bits-behind}
 use Rattle.low_first.specs.LowFirst.{low_bytes, low_four, low_eight}
 use Rattle.low_first.proofs.Bytes.{length-low, low-at, four-there, eight-there}
-use Rattle.log_model.specs.declared.LogRead.TheVariants.{Next}
 use Rattle.log_model.specs.Format.{map_of, pair_of, pairs_of, hop_of}
 use Rattle.log_model.specs.Read.{is_set, pair_at, unchanged, db_after, power_after, read_in}
 use Rattle.log_model.proofs.Answers.{passes, in-next}
@@ -169,7 +169,7 @@ module _ (n at : ℕ) (pre post : List ℕ) (S : ℕ → Bool) (D P : ℕ → �
       (sym (power-there n at pre post S D P e k h t (powers k h)))))
       (λ t. sym (power-clear l at n k power (bit-within n at pre post S D P e k h ∙ t)) ∙ sym (same_of (P k) (get_or power k 0) (or_r (differ (D k) (get_or db k 0)) _ (sym (agree k h) ∙ t))))
 
-  pub read-there : read_in l at n db power ≡ (Next (at + length (hop_of n S D P)), tab n D, tab n P)
+  pub read-there : read_in l at n db power ≡ (Ok (Some (at + length (hop_of n S D P))), tab n D, tab n P)
   read-there =
       sym
       (in-next l at db power n
@@ -180,5 +180,5 @@ module _ (n at : ℕ) (pre post : List ℕ) (S : ℕ → Bool) (D P : ℕ → �
         pairs_whole = omega (arith, log-long n at pre post S D P e, pair-there n at pre post S D P e n (omega arith));
         all_changed = none_any _ n changed-all;
       }))
-      ∙ ap₂ (λ (a : ℕ) (r : List ℕ × List ℕ). (Next a, r.0, r.1)) (pair-there n at pre post S D P e n (omega arith) ∙ hop-long n at pre post S D P e)
+      ∙ ap₂ (λ (a : ℕ) (r : List ℕ × List ℕ). (Ok (Some a), r.0, r.1)) (pair-there n at pre post S D P e n (omega arith) ∙ hop-long n at pre post S D P e)
       (λ i. (tab-ext n (db_after l at n db) D db-after i, tab-ext n (power_after l at n power) P power-after i))

@@ -1,4 +1,5 @@
 -- What an answer of the reader tells. Assumes nothing.
+use Rattle.std.specs.Prelude.{Some, None, Ok}
 use mathlib.Core.Path.{◌≡◌, refl, sym, ap, ◌∙◌}
 use mathlib.Core.List.{List}
 use Prim.Native.Nat.{ℕ}
@@ -10,22 +11,10 @@ use Rattle.laws.specs.Lists.{tab}
 use Rattle.laws.proofs.Tabs.{length-tab}
 use Rattle.laws.proofs.Tests.{by-test}
 use Rattle.low_first.specs.LowFirst.{low_two}
-use Rattle.log_model.specs.declared.LogRead.{LogRead}
-use Rattle.log_model.specs.declared.LogRead.TheVariants.{Next, End, Refused}
+use Rattle.refusals.specs.Readings.{some_or}
 use Rattle.log_model.specs.Read.{pair_at, start_refusal, hop_refusal, db_after, power_after, read_in, read_hop}
 use Rattle.log_model.specs.Whole.{Reading, Accepted}
 use Rattle.log_model.proofs.Answers.{started, starts, whole, read-refused, read-end, read-in, in-refused, in-next}
-
--- which answer it is, and its position
-abbrev pub kind : LogRead → ℕ
-kind (Next a) = 0
-kind End = 1
-kind (Refused r) = 2
-
-position : LogRead → ℕ
-position (Next a) = a
-position End = 0
-position (Refused r) = 0
 
 -- a hop was read: the checks passed, and what it left
 pub record Read (log : List ℕ) (at : ℕ) (db power : List ℕ) (next : ℕ) (d p : List ℕ) : Type 0 where
@@ -35,8 +24,9 @@ pub record Read (log : List ℕ) (at : ℕ) (db power : List ℕ) (next : ℕ) (
   pub d_is : d ≡ tab (low_two log 0) (db_after log at (low_two log 0) db)
   pub p_is : p ≡ tab (low_two log 0) (power_after log at (low_two log 0) power)
 
-pub other : {A : Type 0} (a b : Reading) → a ≡ b → (kind a.0 ≡ kind b.0 → ⊥) → A
-other a b e h = absurd (h (ap (λ (r : Reading). kind r.0) e))
+-- readings with different answers are not equal
+pub other : {A : Type 0} (a b : Reading) → a ≡ b → (a.0 ≡ b.0 → ⊥) → A
+other a b e h = absurd (h (ap (λ (r : Reading). r.0) e))
 
 module _ (log : List ℕ) (at : ℕ) (db power : List ℕ) where
   abbrev n : ℕ
@@ -45,32 +35,30 @@ module _ (log : List ℕ) (at : ℕ) (db power : List ℕ) where
   abbrev start : ℕ
   start = start_refusal log at (length db) (length power)
 
-  pub read-tells : (next : ℕ) (d p : List ℕ) → read_hop log at db power ≡ (Next next, d, p) → Read log at db power next d p
-  unfolding position
+  pub read-tells : (next : ℕ) (d p : List ℕ) → read_hop log at db power ≡ (Ok (Some next), d, p) → Read log at db power next d p
   read-tells next d p e =
       by-test (eqb start 0)
       (λ s.
       let s0 : start ≡ 0 = eqb-true start 0 s in
       by-test (eqb at (length log))
-      (λ t. other _ _ (read-end log at db power s0 (eqb-true at (length log) t) ∙ e) (λ q. omega arith))
+      (λ t. other _ _ (read-end log at db power s0 (eqb-true at (length log) t) ∙ e) (λ q. cc))
       (λ t.
-      let in-hop : read_in log at n db power ≡ (Next next, d, p) = read-in log at db power s0 (eqb-false at (length log) t) ∙ e in
+      let in-hop : read_in log at n db power ≡ (Ok (Some next), d, p) = read-in log at db power s0 (eqb-false at (length log) t) ∙ e in
       by-test (eqb (hop_refusal log at n db power) 0)
       (λ u.
       let u0 : hop_refusal log at n db power ≡ 0 = eqb-true _ 0 u in
-      let all : (Next (pair_at log at n n), tab n (db_after log at n db), tab n (power_after log at n power)) ≡ (Next next, d, p) = in-next log at db power n u0 ∙ in-hop in
+      let all : (Ok (Some (pair_at log at n n)), tab n (db_after log at n db), tab n (power_after log at n power)) ≡ (Ok (Some next), d, p) = in-next log at db power n u0 ∙ in-hop in
       record {
         start_ok = s0;
         hop_ok = u0;
-        next_is = sym (ap (λ (r : Reading). position r.0) all);
+        next_is = sym (ap (λ (r : Reading). some_or 0 r.0) all);
         d_is = sym (ap (λ (r : Reading). r.1) all);
         p_is = sym (ap (λ (r : Reading). r.2) all);
       })
-      (λ u. other _ _ (in-refused log at db power n (hop_refusal log at n db power) refl (eqb-false _ 0 u) ∙ in-hop) (λ q. omega arith))))
-      (λ s. other _ _ (read-refused log at db power start refl (eqb-false start 0 s) ∙ e) (λ q. omega arith))
+      (λ u. other _ _ (in-refused log at db power n (hop_refusal log at n db power) refl (eqb-false _ 0 u) ∙ in-hop) (λ q. cc))))
+      (λ s. other _ _ (read-refused log at db power start refl (eqb-false start 0 s) ∙ e) (λ q. cc))
 
-  pub end-tells : (d p : List ℕ) → read_hop log at db power ≡ (End, d, p) → (start ≡ 0) × (at ≡ length log)
-  unfolding position
+  pub end-tells : (d p : List ℕ) → read_hop log at db power ≡ (Ok None, d, p) → (start ≡ 0) × (at ≡ length log)
   end-tells d p e =
       by-test (eqb start 0)
       (λ s.
@@ -78,11 +66,11 @@ module _ (log : List ℕ) (at : ℕ) (db power : List ℕ) where
       by-test (eqb at (length log))
       (λ t. (s0, eqb-true at (length log) t))
       (λ t.
-      let in-hop : read_in log at n db power ≡ (End, d, p) = read-in log at db power s0 (eqb-false at (length log) t) ∙ e in
+      let in-hop : read_in log at n db power ≡ (Ok None, d, p) = read-in log at db power s0 (eqb-false at (length log) t) ∙ e in
       by-test (eqb (hop_refusal log at n db power) 0)
-      (λ u. other _ _ (in-next log at db power n (eqb-true _ 0 u) ∙ in-hop) (λ q. omega arith))
-      (λ u. other _ _ (in-refused log at db power n (hop_refusal log at n db power) refl (eqb-false _ 0 u) ∙ in-hop) (λ q. omega arith))))
-      (λ s. other _ _ (read-refused log at db power start refl (eqb-false start 0 s) ∙ e) (λ q. omega arith))
+      (λ u. other _ _ (in-next log at db power n (eqb-true _ 0 u) ∙ in-hop) (λ q. cc))
+      (λ u. other _ _ (in-refused log at db power n (hop_refusal log at n db power) refl (eqb-false _ 0 u) ∙ in-hop) (λ q. cc))))
+      (λ s. other _ _ (read-refused log at db power start refl (eqb-false start 0 s) ∙ e) (λ q. cc))
 
 -- a position that the reader hands out is accepted
 pub accepted : Accepted

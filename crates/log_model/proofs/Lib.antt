@@ -6,3 +6,4 @@ pub mod RoundTrip
 pub mod Inverse
 pub mod NoOther
 pub mod Examples
+pub mod Counts

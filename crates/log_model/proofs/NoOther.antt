@@ -1,4 +1,5 @@
 -- A log that reads from its start to its end without a refusal is byte for byte what the writer writes of those hops. Assumes nothing.
+use Rattle.std.specs.Prelude.{Some, None, Ok, Err}
 use mathlib.Core.Path.{◌≡◌, refl, sym, ap, ap₂, subst, ◌∙◌}
 use mathlib.Core.Bool.{Bool, true, false, cond, not, ◌&&◌, ◌||◌}
 use mathlib.Core.List.{List, [], ◌∷◌, ◌++◌}
@@ -21,7 +22,6 @@ use Rattle.low_first.specs.LowFirst.{low_two, low_four, low_eight}
 use Rattle.low_first.proofs.Bytes.{two_back, four-back, eight-back, part_low}
 use Rattle.log_model.specs.Format.{map_of, pair_of, pairs_of, hop_of, before, hop_at, log_of}
 use Rattle.log_model.specs.Read.{is_set, pair_at, unchanged, db_after, power_after, read_hop}
-use Rattle.log_model.specs.declared.LogRead.TheVariants.{Next, End, Refused}
 use Rattle.log_model.specs.Whole.{Reading, onward, read_on, Below, NoOther}
 use Rattle.log_model.proofs.Answers.{Started, started, Whole, whole}
 use Rattle.log_model.proofs.Inverse.{Read, read-tells, end-tells, other}
@@ -240,19 +240,19 @@ module _ (log : List ℕ) (small : (i : ℕ) → get_or log i 0 < 256) (at : ℕ
 
 -- reading m answers on from `at` ends: so it stands there
 reads_on : (log : List ℕ) (small : (i : ℕ) → get_or log i 0 < 256) (m at : ℕ) (db power ds ps : List ℕ)
-    → read_on m log at db power ≡ (End, ds, ps) → Rest log (low_two log 0) at db power ds ps
+    → read_on m log at db power ≡ (Ok None, ds, ps) → Rest log (low_two log 0) at db power ds ps
 unfolding read_on
-reads_on log small zero at db power ds ps e = other _ _ e (λ q. omega arith)
+reads_on log small zero at db power ds ps e = other _ _ e (λ q. cc)
 reads_on log small (suc m) at db power ds ps e = go (λ next d p ds ps f. reads_on log small m next d p ds ps f) (read_hop log at db power) refl e
   where
-    go : ((next : ℕ) (d p ds ps : List ℕ) → read_on m log next d p ≡ (End, ds, ps) → Rest log (low_two log 0) next d p ds ps)
-        → (r : Reading) → read_hop log at db power ≡ r → onward r (read_on m log) ≡ (End, ds, ps) → Rest log (low_two log 0) at db power ds ps
-    go more (Next next, d, p) f g =
+    go : ((next : ℕ) (d p ds ps : List ℕ) → read_on m log next d p ≡ (Ok None, ds, ps) → Rest log (low_two log 0) next d p ds ps)
+        → (r : Reading) → read_hop log at db power ≡ r → onward r (read_on m log) ≡ (Ok None, ds, ps) → Rest log (low_two log 0) at db power ds ps
+    go more (Ok (Some next), d, p) f g =
         let r : Reading = read_on m log next d p in
         subst (λ (x : List ℕ × List ℕ). Rest log (low_two log 0) at db power x.0 x.1) (λ i. (ap (λ (x : Reading). x.1) g i, ap (λ (x : Reading). x.2) g i))
         (one_more log small at db power next d p (read-tells log at db power next d p f) r.1 r.2
         (more next d p r.1 r.2 (λ i. (ap (λ (x : Reading). x.0) g i, r.1, r.2))))
-    go more (End, d, p) f g =
+    go more (Ok None, d, p) f g =
         let t = end-tells log at db power d p f in
         let s = started log at (length db) (length power) t.0 in
         record {
@@ -262,7 +262,7 @@ reads_on log small (suc m) at db power ds ps e = go (λ next d p ds ps f. reads_
           long = ap (λ (x : Reading). length x.1) (sym g) ∙ sym (mul-zero (low_two log 0));
           bytes = ap (λ (i : ℕ). drop i log) t.1 ∙ drop-length log;
         }
-    go more (Refused x, d, p) f g = other _ _ g (λ q. omega arith)
+    go more (Err x, d, p) f g = other _ _ g (λ q. cc)
 
 -- hops behind n zeros are those of the format
 from-zeros : (n : ℕ) (l : List ℕ) (i : ℕ) → get_or (tab n (λ _. 0) ++ l) i 0 ≡ before n l i

@@ -19,11 +19,6 @@ module _ (log : List ℕ) (at n : ℕ) where
   unfolding pair_at tally
   pair-first = sym (add-zero (at + width n))
 
-  -- the map lies before the end of the pairs
-  pub map-room : (m : ℕ) → pair_at log at n n ≤ m → at + width n ≤ m
-  unfolding pair_at
-  map-room m h = omega arith
-
   module _ (k : ℕ) where
     -- behind channel k: a pair further where its bit is set
     pub pair-more : is_set log at k ≡ true → pair_at log at n k + 12 ≡ pair_at log at n (k + 1)

@@ -1,4 +1,5 @@
 -- Reading back a written log yields the same hops, bit for bit, and then "end". Assumes nothing.
+use Rattle.std.specs.Prelude.{Some, None, Ok}
 use mathlib.Core.Path.{◌≡◌, sym, ap, ap₂, ◌∙◌}
 use mathlib.Core.Bool.{Bool, cond, ◌||◌}
 use mathlib.Core.List.{List, ◌++◌, append_assoc}
@@ -17,7 +18,6 @@ use Rattle.laws.proofs.Runs.{joined-split, joined-room, joined-upto}
 use Rattle.laws.specs.Bits.{width}
 use Rattle.low_first.specs.LowFirst.{low_bytes, low_two}
 use Rattle.low_first.proofs.Bytes.{length-low, low-at, two-there}
-use Rattle.log_model.specs.declared.LogRead.TheVariants.{Next, End}
 use Rattle.log_model.specs.Format.{before, changed, hop_at, log_of}
 use Rattle.log_model.specs.Read.{start_refusal, read_in, read_hop}
 use Rattle.log_model.specs.Whole.{Reading, onward, read_on, read_log, Hops, ReadsBack}
@@ -89,7 +89,7 @@ module _ (n : ℕ) (db power : List ℕ) (hops : Hops n db power) where
         to = omega (arith, log-parts n db power, joined-upto H j h l);
       }
 
-  pub read_one : (j : ℕ) → j < h → read_hop log (place j) (before_on j db) (before_on j power) ≡ (Next (place (j + 1)), hop_on j db, hop_on j power)
+  pub read_one : (j : ℕ) → j < h → read_hop log (place j) (before_on j db) (before_on j power) ≡ (Ok (Some (place (j + 1))), hop_on j db, hop_on j power)
   unfolding hop_at
   read_one j l =
       sym (read-in log (place j) (before_on j db) (before_on j power) (begun j (omega arith)) (λ q. omega (arith, log-parts n db power, joined-room H j h l, length_at n db power j, hops.some)))
@@ -101,7 +101,7 @@ module _ (n : ℕ) (db power : List ℕ) (hops : Hops n db power) where
       (sym (get_d-tab n (λ k. before n db (n * j + k)) k 0 m)) (sym (get_d-tab n (λ k. before n power (n * j + k)) k 0 m)))
       (λ k m. hops.dbs (n * j + k) (omega (arith, hop-within n (length db) j hops.whole l)))
       (λ k m. hops.powers (n * j + k) (omega (arith, hops.alike, hop-within n (length db) j hops.whole l)))
-      ∙ ap (λ (a : ℕ). (Next a, hop_on j db, hop_on j power))
+      ∙ ap (λ (a : ℕ). (Ok (Some a), hop_on j db, hop_on j power))
       (let z : place j + length (H j) ≡ place (j + 1) = omega (arith, ap length (joined-next j H), length-append (joined (tab j H)) (H j)) in z)
 
   pub first-before : (l : List ℕ) → tab n (λ _. 0) ≡ before_on 0 l
@@ -125,7 +125,7 @@ module _ (n : ℕ) (db power : List ℕ) (hops : Hops n db power) where
       ∙ take-append-drop n (drop (n * j) l)
 
   -- from hop j on, m more and the end
-  read-rest : (m j x : ℕ) → j + m ≡ h → read_on (suc (m + x)) log (place j) (before_on j db) (before_on j power) ≡ (End, drop (n * j) db, drop (n * j) power)
+  read-rest : (m j x : ℕ) → j + m ≡ h → read_on (suc (m + x)) log (place j) (before_on j db) (before_on j power) ≡ (Ok None, drop (n * j) db, drop (n * j) power)
   unfolding read_on
   read-rest zero j x e =
       let f : j ≡ h = sym (add-zero j) ∙ e in
@@ -134,7 +134,7 @@ module _ (n : ℕ) (db power : List ℕ) (hops : Hops n db power) where
       let b : length power ≤ n * j = omega (arith, hops.alike) in
       ap (λ (r : Reading). onward r (read_on (zero + x) log))
       (sym (read-end log (place j) (before_on j db) (before_on j power) (begun j (omega arith)) (ap place f ∙ sym (log-parts n db power))))
-      ∙ ap₂ (λ (a b : List ℕ). (End, a, b)) (sym (drop_of_length-le db a)) (sym (drop_of_length-le power b))
+      ∙ ap₂ (λ (a b : List ℕ). (Ok None, a, b)) (sym (drop_of_length-le db a)) (sym (drop_of_length-le power b))
   read-rest (suc m) j x e =
       let l : j < h = omega arith in
       let w = hop-within n (length db) j hops.whole l in
@@ -143,7 +143,7 @@ module _ (n : ℕ) (db power : List ℕ) (hops : Hops n db power) where
       (ap (λ (i : ℕ). read_on i log (place (j + 1)) (hop_on j db) (hop_on j power)) (let z : suc m + x ≡ suc (m + x) = omega arith in z)
       ∙ ap₂ (λ (a b : List ℕ). read_on (suc (m + x)) log (place (j + 1)) a b) (next-before j db) (next-before j power)
       ∙ read-rest m (j + 1) x (omega arith))
-      ∙ ap₂ (λ (a b : List ℕ). (End, a, b)) (hop-on j db w) (hop-on j power (omega (arith, hops.alike)))
+      ∙ ap₂ (λ (a b : List ℕ). (Ok None, a, b)) (hop-on j db w) (hop-on j power (omega (arith, hops.alike)))
 
   -- as many answers as the log has bytes are enough
   enough : h + 1 ≤ length log
@@ -151,13 +151,13 @@ module _ (n : ℕ) (db power : List ℕ) (hops : Hops n db power) where
       let one_byte : 1 ≤ width n = omega (arith, hops.some) in
       omega (arith, log-parts n db power, length-hops n db power h, mul-le-mul_right h one_byte)
 
-  read_all : read_log log ≡ (End, db, power)
+  read_all : read_log log ≡ (Ok None, db, power)
   read_all =
       ap (λ (m : ℕ). read_on (suc (length log)) log 2 (tab m (λ _. 0)) (tab m (λ _. 0))) header
       ∙ ap (λ (i : ℕ). read_on (suc i) log 2 (tab n (λ _. 0)) (tab n (λ _. 0))) (let z : length log ≡ h + (length log - h) = omega (arith, enough) in z)
       ∙ ap₂ (λ (a b : List ℕ). read_on (suc (h + (length log - h))) log 2 a b) (first-before db) (first-before power)
       ∙ read-rest h 0 (length log - h) (zero-add h)
-      ∙ ap₂ (λ (a b : List ℕ). (End, a, b)) (ap (λ (i : ℕ). drop i db) (mul-zero n)) (ap (λ (i : ℕ). drop i power) (mul-zero n))
+      ∙ ap₂ (λ (a b : List ℕ). (Ok None, a, b)) (ap (λ (i : ℕ). drop i db) (mul-zero n)) (ap (λ (i : ℕ). drop i power) (mul-zero n))
 
 pub reads-back : ReadsBack
 reads-back n db power hops = read_all n db power hops

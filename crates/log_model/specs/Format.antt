@@ -1,11 +1,9 @@
 -- Document 02, R-1: the bytes of a log. Hops are bit patterns; those of all hops stand one after another in `db` and `power`.
-use Rattle.std.specs.Prelude.{Bool, cond, not, ◌&&◌, ◌||◌, List, [], ◌++◌, ℕ, ◌+◌, ◌-◌, ◌*◌, ◌/◌, ◌%◌, eqb, ltb, length, get_or, drop}
+use Rattle.std.specs.Prelude.{Bool, cond, not, ◌&&◌, ◌||◌, List, [], ◌++◌, ℕ, ◌+◌, ◌-◌, ◌*◌, ◌/◌, ◌%◌, eqb, ltb, length, get_or, drop, Result, Ok, Err}
 use Rattle.laws.specs.Lists.{tab, joined}
 use Rattle.laws.specs.Tests.{first, within, differ}
 use Rattle.laws.specs.Bits.{width, bytes_of}
 use Rattle.low_first.specs.LowFirst.{low_bytes}
-use Rattle.log_model.specs.declared.LogLength.{LogLength}
-use Rattle.log_model.specs.declared.LogLength.TheVariants as L
 
 -- a map of ceil(n / 8) bytes, channel 0 in the lowest bit of the first; bits past n are 0
 unfoldable pub map_of : ℕ → (ℕ → Bool) → List ℕ
@@ -49,8 +47,8 @@ write_refusal n db power room =
     (first (ltb room (length (log_of n db power))) 2 0)))
 
 -- the writer's answer, the log's length, and what its output holds then: the log, and after it what stood there
-unfoldable pub written : ℕ → List ℕ → List ℕ → List ℕ → LogLength × List ℕ
+unfoldable pub written : ℕ → List ℕ → List ℕ → List ℕ → Result ℕ ℕ × List ℕ
 written n db power log =
     cond (eqb (write_refusal n db power (length log)) 0)
-    (L.Length (length (log_of n db power)), log_of n db power ++ drop (length (log_of n db power)) log)
-    (L.Refused (write_refusal n db power (length log)), log)
+    (Ok (length (log_of n db power)), log_of n db power ++ drop (length (log_of n db power)) log)
+    (Err (write_refusal n db power (length log)), log)

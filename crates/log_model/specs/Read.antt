@@ -1,13 +1,10 @@
 -- Document 02, R-1: what the reader answers, and what it makes of the caller's two slices.
-use Rattle.std.specs.Prelude.{Bool, cond, not, ◌&&◌, List, ℕ, ◌+◌, ◌-◌, ◌*◌, eqb, ltb, length, get_or}
+use Rattle.std.specs.Prelude.{Bool, cond, not, ◌&&◌, List, ℕ, ◌+◌, ◌-◌, ◌*◌, eqb, ltb, length, get_or, Option, Some, None, Result, Ok, Err}
 use Rattle.laws.specs.Lists.{tab}
 use Rattle.laws.specs.Tests.{any_below, tally, first, within, differ}
 use Rattle.laws.specs.Bits.{width, bit_of}
 use Rattle.low_first.specs.LowFirst.{low_two, low_four, low_eight}
-use Rattle.log_model.specs.declared.LogChannels.{LogChannels}
-use Rattle.log_model.specs.declared.LogChannels.TheVariants as C
-use Rattle.log_model.specs.declared.LogRead.{LogRead}
-use Rattle.log_model.specs.declared.LogRead.TheVariants.{Next, End, Refused}
+use Rattle.refusals.specs.Readings.{reading}
 
 -- bit k of the map that begins at byte `at`
 unfoldable pub is_set : List ℕ → ℕ → ℕ → Bool
@@ -27,9 +24,9 @@ unchanged log at n db power k =
 unfoldable pub header_refusal : List ℕ → ℕ
 header_refusal log = first (ltb (length log) 2) 10 (first (not (within 1 512 (low_two log 0))) 1 0)
 
--- the n of a log's header
-unfoldable pub channels : List ℕ → LogChannels
-channels log = cond (eqb (header_refusal log) 0) (C.Channels (low_two log 0)) (C.Refused (header_refusal log))
+-- the n of a log's header, or the refusal
+unfoldable pub channels : List ℕ → Result ℕ ℕ
+channels log = reading (header_refusal log) (low_two log 0)
 
 -- before a hop: the header, 5 for slices of another length, 10 for a position below 2 or past the log
 unfoldable pub start_refusal : List ℕ → ℕ → ℕ → ℕ → ℕ
@@ -54,16 +51,16 @@ db_after log at n db k = cond (is_set log at k) (low_eight log (pair_at log at n
 abbrev pub power_after : List ℕ → ℕ → ℕ → List ℕ → ℕ → ℕ
 power_after log at n power k = cond (is_set log at k) (low_four log (pair_at log at n k + 8)) (get_or power k 0)
 
--- the answer, and what the two slices hold then: the next hop, or what they held
-unfoldable pub read_in : List ℕ → ℕ → ℕ → List ℕ → List ℕ → LogRead × List ℕ × List ℕ
+-- the answer, where the next hop begins, and what the two slices hold then: the next hop; or the refusal, and what they held
+unfoldable pub read_in : List ℕ → ℕ → ℕ → List ℕ → List ℕ → Result (Option ℕ) ℕ × List ℕ × List ℕ
 read_in log at n db power =
     cond (eqb (hop_refusal log at n db power) 0)
-    (Next (pair_at log at n n), tab n (db_after log at n db), tab n (power_after log at n power))
-    (Refused (hop_refusal log at n db power), db, power)
+    (Ok (Some (pair_at log at n n)), tab n (db_after log at n db), tab n (power_after log at n power))
+    (Err (hop_refusal log at n db power), db, power)
 
--- after the last hop it says "end"
-unfoldable pub read_hop : List ℕ → ℕ → List ℕ → List ℕ → LogRead × List ℕ × List ℕ
+-- after the last hop the answer is "end", which is none
+unfoldable pub read_hop : List ℕ → ℕ → List ℕ → List ℕ → Result (Option ℕ) ℕ × List ℕ × List ℕ
 read_hop log at db power =
     cond (eqb (start_refusal log at (length db) (length power)) 0)
-    (cond (eqb at (length log)) (End, db, power) (read_in log at (low_two log 0) db power))
-    (Refused (start_refusal log at (length db) (length power)), db, power)
+    (cond (eqb at (length log)) (Ok None, db, power) (read_in log at (low_two log 0) db power))
+    (Err (start_refusal log at (length db) (length power)), db, power)

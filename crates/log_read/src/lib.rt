@@ -6,17 +6,17 @@ ghost use Rattle.laws.specs.Lists.{tab};
 ghost use Rattle.laws.specs.Bits.{width};
 ghost use Rattle.laws.specs.Tests.{any_below, tally};
 ghost use Rattle.low_first.specs.LowFirst.{low_four, low_eight};
-ghost use Rattle.log_model.specs.Read.{is_set, pair_at, unchanged, header_refusal, channels, start_refusal, hop_refusal, db_after, power_after, read_hop};
+ghost use Rattle.refusals.specs.Numbers.{answer, numbered};
+ghost use Rattle.log_model.specs.Read.{is_set, pair_at, unchanged, channels, start_refusal, hop_refusal, db_after, power_after, read_hop};
 
-use log_model::{LogChannels, LogRead};
+use refusals::Refusal;
 
 // Bit k of the map at `at`.
 fn is_set(log: &[u8], at: usize, k: usize) -> bool
     requires { at + k / 8 < length log.now }
     ensures { result ≡ is_set log.now at k }
 {
-    let byte = log[at + k / 8];
-    (byte >> (k % 8)) % 2 == 1
+    (log[at + k / 8] >> (k % 8)) % 2 == 1
 }
 
 // Some bit past the n channels is set.
@@ -24,9 +24,8 @@ fn is_set_past(log: &[u8], at: usize, n: usize) -> bool
     requires { (n ≤ 512) × (at + width n ≤ length log.now) }
     ensures { result ≡ any_below (8 * width n - n) (λ i. is_set log.now at (n + i)) }
 {
-    let past = 8 * laws::width(n) - n;
-    for i in 0..past {
-        if is_set(log, at, n + i) {
+    for k in n..8 * n.div_ceil(8) {
+        if is_set(log, at, k) {
             return true;
         }
     }
@@ -40,7 +39,7 @@ pub fn count_set(log: &[u8], at: usize, n: usize) -> usize
 {
     let mut count = 0;
     for k in 0..n {
-        count += laws::one(is_set(log, at, k));
+        count += usize::from(is_set(log, at, k));
     }
     count
 }
@@ -50,10 +49,8 @@ fn is_pair(log: &[u8], pair: usize, db: u64, power: u32) -> bool
     requires { pair + 12 ≤ length log.now }
     ensures { result ≡ eqb (low_eight log.now pair) db && eqb (low_four log.now (pair + 8)) power }
 {
-    if low_first::eight_within(log, pair) != db {
-        return false;
-    }
-    low_first::four_within(log, pair + 8) == power as u64
+    low_first::eight_within(log, pair) == db
+        && low_first::four_within(log, pair + 8) == u64::from(power)
 }
 
 // Some pair of the hop is the one that the slices hold already.
@@ -61,7 +58,7 @@ fn is_unchanged(log: &[u8], at: usize, db: &[u64], power: &[u32]) -> bool
     requires { (length db.now ≤ 512) × ((length power.now ≡ length db.now) × (pair_at log.now at (length db.now) (length db.now) ≤ length log.now)) }
     ensures { result ≡ any_below (length db.now) (unchanged log.now at (length db.now) db.now power.now) }
 {
-    let mut pair = at + laws::width(db.len());
+    let mut pair = at + db.len().div_ceil(8);
     for k in 0..db.len() {
         if is_set(log, at, k) {
             if is_pair(log, pair, db[k], power[k]) {
@@ -73,78 +70,57 @@ fn is_unchanged(log: &[u8], at: usize, db: &[u64], power: &[u32]) -> bool
     false
 }
 
-// The refusals of the header.
-fn header_refusal(log: &[u8]) -> u16
-    ensures { result ≡ header_refusal log.now }
+// The n of a log's header.
+#[tactic(auto, unfolding(log_model::specs::Read::header_refusal, log_model::specs::Read::channels))]
+pub fn log_channels(log: &[u8]) -> Result<usize, Refusal>
+    ensures { numbered result ≡ channels log.now }
 {
     if log.len() < 2 {
-        return 10;
+        return Err(Refusal::Cut);
     }
-    let n = low_first::two_bytes(log, 0);
-    if n < 1 {
-        return 1;
+    let n = usize::from(low_first::two_bytes(log, 0));
+    if n < 1 || n > 512 {
+        return Err(Refusal::Band);
     }
-    if n > 512 {
-        return 1;
-    }
-    0
-}
-
-// The n of a log's header.
-pub fn log_channels(log: &[u8]) -> LogChannels
-    ensures { result ≡ channels log.now }
-{
-    let no = header_refusal(log);
-    if no != 0 {
-        return LogChannels::Refused(no);
-    }
-    LogChannels::Channels(laws::wide(low_first::two_bytes(log, 0)))
+    Ok(n)
 }
 
 // The refusals before a hop.
-pub fn start_refusal(log: &[u8], at: usize, dbs: usize, powers: usize) -> u16
-    ensures { result ≡ start_refusal log.now at dbs powers }
+#[tactic(auto, unfolding(log_model::specs::Read::channels, log_model::specs::Read::start_refusal))]
+pub fn start_refusal(log: &[u8], at: usize, dbs: usize, powers: usize) -> Result<(), Refusal>
+    ensures { answer result ≡ start_refusal log.now at dbs powers }
 {
-    let no = header_refusal(log);
-    if no != 0 {
-        return no;
+    let n = log_channels(log)?;
+    if dbs != n || powers != n {
+        return Err(Refusal::HopSize);
     }
-    let n = laws::wide(low_first::two_bytes(log, 0));
-    if dbs != n {
-        return 5;
+    if at < 2 || at > log.len() {
+        return Err(Refusal::Cut);
     }
-    if powers != n {
-        return 5;
-    }
-    if at < 2 {
-        return 10;
-    }
-    if at > log.len() {
-        return 10;
-    }
-    0
+    Ok(())
 }
 
 // The refusals within a hop.
-fn hop_refusal(log: &[u8], at: usize, db: &[u64], power: &[u32]) -> u16
+#[tactic(auto, unfolding(log_model::specs::Read::hop_refusal, log_model::specs::Read::pair_at))]
+fn hop_refusal(log: &[u8], at: usize, db: &[u64], power: &[u32]) -> Result<(), Refusal>
     requires { (length db.now ≤ 512) × ((length power.now ≡ length db.now) × (at ≤ length log.now)) }
-    ensures { result ≡ hop_refusal log.now at (length db.now) db.now power.now }
+    ensures { answer result ≡ hop_refusal log.now at (length db.now) db.now power.now }
 {
     let n = db.len();
-    let pairs = at + laws::width(n);
+    let pairs = at + n.div_ceil(8);
     if log.len() < pairs {
-        return 10;
+        return Err(Refusal::Cut);
     }
     if is_set_past(log, at, n) {
-        return 11;
+        return Err(Refusal::Damaged);
     }
     if log.len() < pairs + 12 * count_set(log, at, n) {
-        return 10;
+        return Err(Refusal::Cut);
     }
     if is_unchanged(log, at, db, power) {
-        return 11;
+        return Err(Refusal::Damaged);
     }
-    0
+    Ok(())
 }
 
 // The pairs of a hop into the slices; the answer is where the hop ends.
@@ -155,10 +131,11 @@ fn take_pairs(log: &[u8], at: usize, db: &mut [u64], power: &mut [u32]) -> usize
     ensures power_after { power.new ≡ tab (length db.old) (power_after log.now at (length db.old) power.old) }
 {
     let n = db.len();
-    let mut pair = at + laws::width(n);
+    let mut pair = at + n.div_ceil(8);
     for k in 0..n {
         if is_set(log, at, k) {
             db[k] = low_first::eight_within(log, pair);
+            // What is cut to fewer bits here fits in them, which is proved.
             power[k] = low_first::four_within(log, pair + 8) as u32;
             pair += 12;
         }
@@ -166,20 +143,20 @@ fn take_pairs(log: &[u8], at: usize, db: &mut [u64], power: &mut [u32]) -> usize
     pair
 }
 
-// One hop on: the slices become the next hop. With "end" and with a refusal they stay as they are.
-pub fn log_read(log: &[u8], at: usize, db_bits: &mut [u64], power_bits: &mut [u32]) -> LogRead
-    ensures { (result, db_bits.new, power_bits.new) ≡ read_hop log.now at db_bits.old power_bits.old }
+// One hop on: the slices become the next hop, and the answer is where the one after it begins. At the end there is none; then, and with
+// a refusal, the slices stay as they are.
+pub fn log_read(
+    log: &[u8],
+    at: usize,
+    db_bits: &mut [u64],
+    power_bits: &mut [u32],
+) -> Result<Option<usize>, Refusal>
+    ensures { (numbered result, db_bits.new, power_bits.new) ≡ read_hop log.now at db_bits.old power_bits.old }
 {
-    let start = start_refusal(log, at, db_bits.len(), power_bits.len());
-    if start != 0 {
-        return LogRead::Refused(start);
-    }
+    start_refusal(log, at, db_bits.len(), power_bits.len())?;
     if at == log.len() {
-        return LogRead::End;
+        return Ok(None);
     }
-    let refusal = hop_refusal(log, at, db_bits, power_bits);
-    if refusal != 0 {
-        return LogRead::Refused(refusal);
-    }
-    LogRead::Next(take_pairs(log, at, db_bits, power_bits))
+    hop_refusal(log, at, db_bits, power_bits)?;
+    Ok(Some(take_pairs(log, at, db_bits, power_bits)))
 }

@@ -1,45 +1,31 @@
 -- The writer's refusals and its answer, each from the tests that led to it. Assumes nothing.
 use mathlib.Core.Path.{◌≡◌, refl, ap, ap₂, ◌∙◌}
-use mathlib.Core.Bool.{true, not}
 use mathlib.Core.List.{List}
-use Prim.Native.Nat.{ℕ, ◌%◌, ◌<◌, ◌≤◌}
+use Prim.Native.Nat.{ℕ, ◌<◌, ◌%◌, ◌≤◌}
 use lib.Dec.{lit<}
 use lib.ListN.{length}
 use borrow.Author.Tests.{lt-ltb, le-ltb, eq-eqb, ne_eqb, ltb-false, not-false}
-use Rattle.laws.specs.Tests.{within}
-use Rattle.laws.proofs.Tests.{passed, same_of, within_of, due, past, inside, differs, agrees}
-use Rattle.log_model.specs.declared.LogLength.TheVariants.{Length, Refused}
+use Rattle.laws.proofs.Tests.{passed, same_of, within_of, due, past, inside, agrees}
+use Rattle.std.specs.Prelude.{Ok, Err}
 use Rattle.log_model.specs.Format.{log_of, write_refusal, written}
 use Rattle.log_hops.specs.Put.{put}
 use Rattle.log_hops.proofs.Puts.{put_front}
 
-module _ (n : ℕ) (db power : List ℕ) (room : ℕ) where
-  pub by_n : not (within 1 512 n) ≡ true → 1 ≡ write_refusal n db power room
-  unfolding write_refusal
-  by_n h = due _ 1 _ h
+-- the checks pass
+pub by-none : (n : ℕ) (db power : List ℕ) (room : ℕ) → 1 ≤ n → n ≤ 512 → length db ≡ length power → length db % n ≡ 0 → length (log_of n db power) ≤ room
+    → 0 ≡ write_refusal n db power room
+unfolding write_refusal
+by-none n db power room a b c d h =
+    past _ 1 _ 0 (inside 1 512 n a b)
+    (past _ 5 _ 0 (agrees (length db) (length power) c) (past _ 5 _ 0 (agrees (length db % n) 0 d) (past _ 2 _ 0 (le-ltb _ _ h) refl)))
 
-  module _ (a : 1 ≤ n) (b : n ≤ 512) where
-    pub by_length : (length db ≡ length power → ⊥) → 5 ≡ write_refusal n db power room
-    unfolding write_refusal
-    by_length h = past _ 1 _ 5 (inside 1 512 n a b) (due _ 5 _ (differs (length db) (length power) h))
-
-    module _ (c : length db ≡ length power) where
-      pub by-rest : (length db % n ≡ 0 → ⊥) → 5 ≡ write_refusal n db power room
-      unfolding write_refusal
-      by-rest h = past _ 1 _ 5 (inside 1 512 n a b) (past _ 5 _ 5 (agrees (length db) (length power) c) (due _ 5 _ (differs (length db % n) 0 h)))
-
-      module _ (d : length db % n ≡ 0) where
-        pub by-room : room < length (log_of n db power) → 2 ≡ write_refusal n db power room
-        unfolding write_refusal
-        by-room h =
-            past _ 1 _ 2 (inside 1 512 n a b)
-            (past _ 5 _ 2 (agrees (length db) (length power) c) (past _ 5 _ 2 (agrees (length db % n) 0 d) (due _ 2 _ (lt-ltb _ _ h))))
-
-        pub by-none : length (log_of n db power) ≤ room → 0 ≡ write_refusal n db power room
-        unfolding write_refusal
-        by-none h =
-            past _ 1 _ 0 (inside 1 512 n a b)
-            (past _ 5 _ 0 (agrees (length db) (length power) c) (past _ 5 _ 0 (agrees (length db % n) 0 d) (past _ 2 _ 0 (le-ltb _ _ h) refl)))
+-- only the room is missing
+pub by-room : (n : ℕ) (db power : List ℕ) (room : ℕ) → 1 ≤ n → n ≤ 512 → length db ≡ length power → length db % n ≡ 0 → room < length (log_of n db power)
+    → 2 ≡ write_refusal n db power room
+unfolding write_refusal
+by-room n db power room a b c d h =
+    past _ 1 _ 2 (inside 1 512 n a b)
+    (past _ 5 _ 2 (agrees (length db) (length power) c) (past _ 5 _ 2 (agrees (length db % n) 0 d) (due _ 2 _ (lt-ltb _ _ h))))
 
 -- what is known once the checks have passed
 pub record Fits (n : ℕ) (db power : List ℕ) (room : ℕ) : Type 0 where
@@ -60,12 +46,12 @@ fits n db power room h =
     record { some = m.0; most = m.1; alike = same_of _ _ b.0; whole = same_of _ _ c.0; roomy = ltb-false _ _ d.0 }
 
 module _ (n : ℕ) (db power log : List ℕ) where
-  pub write-refused : (r : ℕ) → r ≡ write_refusal n db power (length log) → (r ≡ 0 → ⊥) → (Refused r, log) ≡ written n db power log
+  pub write-refused : (r : ℕ) → r ≡ write_refusal n db power (length log) → (r ≡ 0 → ⊥) → (Err r, log) ≡ written n db power log
   unfolding written
-  write-refused r e h = ap (λ (v : ℕ). (Refused v, log)) e ∙ rw (ne_eqb (write_refusal n db power (length log)) 0 (λ z. h (e ∙ z)))
+  write-refused r e h = ap (λ (v : ℕ). (Err v, log)) e ∙ rw (ne_eqb (write_refusal n db power (length log)) 0 (λ z. h (e ∙ z)))
 
   pub write_done : write_refusal n db power (length log) ≡ 0 → (m : ℕ) (l : List ℕ) → m ≡ length (log_of n db power) → l ≡ put 0 (log_of n db power) log
-      → (Length m, l) ≡ written n db power log
+      → (Ok m, l) ≡ written n db power log
   unfolding written
   write_done e m l f g =
-      ap₂ (λ (i : ℕ) (r : List ℕ). (Length i, r)) f (g ∙ put_front (log_of n db power) log) ∙ rw (eq-eqb (write_refusal n db power (length log)) 0 e)
+      ap₂ (λ (i : ℕ) (r : List ℕ). (Ok i, r)) f (g ∙ put_front (log_of n db power) log) ∙ rw (eq-eqb (write_refusal n db power (length log)) 0 e)

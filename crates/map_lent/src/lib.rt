@@ -4,65 +4,63 @@
 
 ghost use Rattle.std.specs.Prelude.{◌≡◌};
 ghost use Rattle.model.specs.MapCalls.{map_make_refusal, map_refusal, address_refusal, after_gate, pair_map_refusal, update_map_refusal, hold_map_refusal};
+ghost use Rattle.refusals.specs.Numbers.{answer};
+
+use refusals::Refusal;
 
 // Whether a map can be made there.
-pub fn make_refusal(gate: &[u16], gate_f: &[f64], map: &[u8]) -> u16
-    ensures { result ≡ after_gate gate.now gate_f.now (λ n. map_make_refusal n map.now) }
+#[tactic(auto, using(crate::proofs::Lent::lent_gate))]
+pub fn make_refusal(gate: &[u16], gate_f: &[f64], map: &[u8]) -> Result<(), Refusal>
+    ensures { answer result ≡ after_gate gate.now gate_f.now (λ n. map_make_refusal n map.now) }
 {
-    let no_gate = gate_store::gate_refusal(gate, gate_f);
-    if no_gate != 0 {
-        return no_gate;
-    }
-    map_store::make_refusal(map, laws::wide(gate[0]))
+    gate_store::gate_refusal(gate, gate_f)?;
+    map_store::make_refusal(map, usize::from(gate[0]))
 }
 
 // Whether they are a gate and a map for it.
-pub fn map_refusal(gate: &[u16], gate_f: &[f64], map: &[u8]) -> u16
-    ensures { result ≡ after_gate gate.now gate_f.now (λ n. map_refusal n map.now) }
+#[tactic(auto, using(crate::proofs::Lent::lent_gate))]
+pub fn map_refusal(gate: &[u16], gate_f: &[f64], map: &[u8]) -> Result<(), Refusal>
+    ensures { answer result ≡ after_gate gate.now gate_f.now (λ n. map_refusal n map.now) }
 {
-    let no_gate = gate_store::gate_refusal(gate, gate_f);
-    if no_gate != 0 {
-        return no_gate;
-    }
-    map_store::map_refusal(map, laws::wide(gate[0]))
+    gate_store::gate_refusal(gate, gate_f)?;
+    map_store::map_refusal(map, usize::from(gate[0]))
 }
 
 // Whether they are, and the map has this address.
-pub fn address_refusal(gate: &[u16], gate_f: &[f64], map: &[u8], address: usize) -> u16
-    ensures { result ≡ after_gate gate.now gate_f.now (λ n. address_refusal n map.now address) }
+#[tactic(auto, using(crate::proofs::Lent::lent_gate))]
+pub fn address_refusal(
+    gate: &[u16],
+    gate_f: &[f64],
+    map: &[u8],
+    address: usize,
+) -> Result<(), Refusal>
+    ensures { answer result ≡ after_gate gate.now gate_f.now (λ n. address_refusal n map.now address) }
 {
-    let no_gate = gate_store::gate_refusal(gate, gate_f);
-    if no_gate != 0 {
-        return no_gate;
-    }
-    map_store::address_refusal(map, laws::wide(gate[0]), address)
+    gate_store::gate_refusal(gate, gate_f)?;
+    map_store::address_refusal(map, usize::from(gate[0]), address)
 }
 
 // Whether they are a bank and a gate of as many channels, and a map for them.
+#[tactic(auto, using(stores::proofs::Banks::at_least_three, crate::proofs::Lent::gate_of_map), unfolding(model::specs::MapCalls::pair_map_refusal))]
 pub fn pair_map_refusal(
     bank: &[u16],
     bank_f: &[f64],
     gate: &[u16],
     gate_f: &[f64],
     map: &[u8],
-) -> u16
-    ensures { result ≡ pair_map_refusal bank.now bank_f.now gate.now gate_f.now map.now }
+) -> Result<(), Refusal>
+    ensures { answer result ≡ pair_map_refusal bank.now bank_f.now gate.now gate_f.now map.now }
 {
-    let no_bank = stores::bank_refusal(bank, bank_f);
-    if no_bank != 0 {
-        return no_bank;
+    stores::bank_refusal(bank, bank_f)?;
+    map_refusal(gate, gate_f, map)?;
+    if bank[0] != gate[0] {
+        return Err(Refusal::Mismatch);
     }
-    let no_map = map_refusal(gate, gate_f, map);
-    if no_map != 0 {
-        return no_map;
-    }
-    if bank[0] == gate[0] {
-        return 0;
-    }
-    8
+    Ok(())
 }
 
 // Whether they take a gate update with slices of these lengths.
+#[tactic(auto, using(crate::proofs::Lent::gate_of_pair), unfolding(model::specs::MapCalls::update_map_refusal))]
 pub fn update_map_refusal(
     bank: &[u16],
     bank_f: &[f64],
@@ -73,17 +71,15 @@ pub fn update_map_refusal(
     power: usize,
     rise: usize,
     drop: usize,
-) -> u16
-    ensures { result ≡ update_map_refusal bank.now bank_f.now gate.now gate_f.now map.now power_db power rise drop }
+) -> Result<(), Refusal>
+    ensures { answer result ≡ update_map_refusal bank.now bank_f.now gate.now gate_f.now map.now power_db power rise drop }
 {
-    let no_pair = pair_map_refusal(bank, bank_f, gate, gate_f, map);
-    if no_pair != 0 {
-        return no_pair;
-    }
-    gate_store::four_long(laws::wide(gate[0]), power_db, power, rise, drop)
+    pair_map_refusal(bank, bank_f, gate, gate_f, map)?;
+    gate_store::four_long(usize::from(gate[0]), power_db, power, rise, drop)
 }
 
 // Whether they take a hold.
+#[tactic(auto, using(crate::proofs::Lent::gate_of_pair), unfolding(model::specs::MapCalls::hold_map_refusal))]
 pub fn hold_map_refusal(
     bank: &[u16],
     bank_f: &[f64],
@@ -92,12 +88,9 @@ pub fn hold_map_refusal(
     map: &[u8],
     rise: usize,
     drop: usize,
-) -> u16
-    ensures { result ≡ hold_map_refusal bank.now bank_f.now gate.now gate_f.now map.now rise drop }
+) -> Result<(), Refusal>
+    ensures { answer result ≡ hold_map_refusal bank.now bank_f.now gate.now gate_f.now map.now rise drop }
 {
-    let no_pair = pair_map_refusal(bank, bank_f, gate, gate_f, map);
-    if no_pair != 0 {
-        return no_pair;
-    }
-    gate_store::two_long(laws::wide(gate[0]), rise, drop)
+    pair_map_refusal(bank, bank_f, gate, gate_f, map)?;
+    gate_store::two_long(usize::from(gate[0]), rise, drop)
 }

@@ -11,13 +11,10 @@ fn set_flags(flags: &mut [u8], marks: &[u8])
     ensures { flags.new ≡ flags_set flags.old marks.now }
 {
     let n = marks.len();
-    let mut i: usize = 0;
-    while i < flags.len() {
+    for (i, flag) in flags.iter_mut().enumerate() {
         let from = 8 * i;
-        let to = laws::least(from + 8, n);
-        let b = bits::gathered(marks, from, to);
-        flags[i] = flags[i] | b;
-        i += 1;
+        let to = n.min(from + 8);
+        *flag |= bits::gathered(marks, from, to);
     }
 }
 
@@ -26,7 +23,7 @@ pub fn set_marks(map: &mut [u8], n: usize, rise: &[u8], drop: &[u8])
     requires { (1 ≤ n) × (n ≤ 512) × (length map.old ≡ map_long n) × (length rise.now ≡ n) × (length drop.now ≡ n) }
     ensures { map.new ≡ marks_set n map.old rise.now drop.now }
 {
-    let w = laws::width(n);
+    let w = n.div_ceil(8);
     let e = w + w;
     set_flags(&mut map[0..w], rise);
     set_flags(&mut map[w..e], drop);

@@ -5,13 +5,10 @@ use mathlib.Core.List.{List}
 use Prim.Native.Nat.{ℕ, ◌+◌, ◌-◌, ◌*◌, ◌<◌, ◌≤◌}
 use native.Mathlib.Omega.{arith}
 use lib.Dec.{eqb, ltb}
-use lib.ListN.{length, get_or, replicate, length-replicate, get_or-replicate}
-use lib.Seq.{ext_get_or}
+use lib.ListN.{length, get_or, replicate}
 use lib.Bits.{bit_and, and_lt}
 use borrow.Author.Tests.{eq-eqb, eqb-true, le-ltb, ltb-false}
-use Rattle.laws.specs.Lists.{tab}
 use Rattle.laws.proofs.Tests.{by-test, both_ways}
-use Rattle.laws.proofs.Tabs.{length-tab, get_d-tab}
 use Rattle.laws.specs.Bits.{bit_at, byte, width, bit_of}
 use Rattle.laws.proofs.Bits.{number_lt, bits-number, bit-at}
 use Rattle.bits.proofs.Operators.{same_bits, bits-and}
@@ -61,12 +58,12 @@ module _ (n : ℕ) (m : List ℕ) (a last low : ℕ) (h : 1 ≤ n) (x : last ≡
       (λ c. none-clean (λ k g l. past-none n (λ k. bit_of m (8 * a + k)) k c g l))
 
 -- the test of the three last bytes
-pub sound-is : (n : ℕ) (m : List ℕ) (x y z low : ℕ) → 1 ≤ n → low ≡ byte (λ j. ltb j (n + 8 - 8 * width n))
+pub sound_is : (n : ℕ) (m : List ℕ) (x y z low : ℕ) → 1 ≤ n → low ≡ byte (λ j. ltb j (n + 8 - 8 * width n))
     → x ≡ get_or m (width n - 1) 0 → y ≡ get_or m (width n + width n - 1) 0 → z ≡ get_or m (width n + width n + width n - 1) 0
     → x < 256 → y < 256 → z < 256
     → (eqb (bit_and x low) x && eqb (bit_and y low) y && eqb (bit_and z low) z) ≡ sound_map n m
 unfolding sound_map rise_flag drop_flag mask_bit
-sound-is n m x y z low h e f g k lx ly lz =
+sound_is n m x y z low h e f g k lx ly lz =
     ap₂ (λ (s t : Bool). s && t)
     (ap₂ (λ (s t : Bool). s && t)
     (last-clean n m 0 x low h (f ∙ ap (λ (i : ℕ). get_or m i 0) (omega arith)) lx e
@@ -77,14 +74,25 @@ sound-is n m x y z low h e f g k lx ly lz =
     w : ℕ
     w = width n
 
--- ---- making
+-- the same, of the bytes as the code finds them
+module _ (n : ℕ) (m : List ℕ) (w low : ℕ) where
+  abbrev pub clean_at : ℕ → Bool
+  clean_at i = let x = get_or m i 0 in
+      eqb (bit_and x low) x
 
-pub all-zero : (l : List ℕ) (n : ℕ) → l ≡ tab n (λ k. 0) → l ≡ replicate n 0
-all-zero l n e =
-    e
-    ∙ ext_get_or 0 (tab n (λ k. 0)) (replicate n 0) (length-tab n (λ k. 0) ∙ sym (length-replicate n 0))
-    (λ i h. (let lt : i < n = omega (arith, length-tab {A = ℕ} n (λ k. 0)) in
-    get_d-tab n (λ k. 0) i 0 lt ∙ sym (get_or-replicate n i 0 0 lt)))
+  pub whole : 1 ≤ n → w ≡ width n → low ≡ byte (λ j. ltb j (n + 8 - 8 * w)) → ((i : ℕ) → get_or m i 0 < 256)
+      → (clean_at (w - 1) && clean_at (w + w - 1) && clean_at (w + w + w - 1)) ≡ sound_map n m
+  whole h d e lt =
+      sound_is n m (get_or m (w - 1) 0) (get_or m (w + w - 1) 0) (get_or m (w + w + w - 1) 0) low h
+      (e ∙ ap (λ (v : ℕ). byte (λ j. ltb j (n + 8 - 8 * v))) d)
+      (ap (λ (v : ℕ). get_or m (v - 1) 0) d)
+      (ap (λ (v : ℕ). get_or m (v + v - 1) 0) d)
+      (ap (λ (v : ℕ). get_or m (v + v + v - 1) 0) d)
+      (lt (w - 1))
+      (lt (w + w - 1))
+      (lt (w + w + w - 1))
+
+-- ---- making
 
 pub fresh-is : (n : ℕ) (m l : List ℕ) → length m ≡ map_long n → l ≡ replicate (length m) 0 → l ≡ fresh_map n
 unfolding fresh_map

@@ -1,8 +1,10 @@
 -- Laws on the search for the first value that stands at a rank. Assumes nothing.
 use mathlib.Core.Path.{◌≡◌, refl, sym, ap, ◌∙◌}
-use mathlib.Core.Bool.{true, false, cond}
+use mathlib.Core.Bool.{Bool, true, false, cond}
 use mathlib.Core.List.{List}
-use Prim.Native.Nat.{ℕ, ◌+◌, ◌-◌, ◌<◌, ◌≤◌}
+use Prim.Native.Nat.{ℕ, ◌+◌, ◌-◌, ◌<◌, ◌≤◌, min}
+use lib.Dec.{leb}
+use borrow.Author.Tests.{leb-true, leb-false}
 use native.Mathlib.Numerals.{add-one}
 use native.Mathlib.Omega.{arith}
 use lib.ListN.{length, get_or, take, drop, length-drop}
@@ -11,9 +13,17 @@ use lib.Ieee.{Float}
 use Rattle.model.specs.Numbers.{f0}
 use Rattle.model.specs.Bank.{stands_at, first_at, ranked}
 
--- a part of width w that would reach past the end is what is left
-pub take_rest : (a w : ℕ) (l : List Float) → length l - a ≤ w → take (length l - a) (drop a l) ≡ take w (drop a l)
-take_rest a w l h = take_all (length l - a) (drop a l) (omega (arith, length-drop a l)) ∙ sym (take_all w (drop a l) (omega (arith, length-drop a l)))
+-- a part of width w, cut where the list ends
+pub cut : (a w e : ℕ) (l : List Float) → a ≤ length l → e ≡ min (a + w) (length l) → take (e - a) (drop a l) ≡ take w (drop a l)
+cut a w e l h z = by (leb (a + w) (length l)) refl
+  where
+    by : (b : Bool) → leb (a + w) (length l) ≡ b → take (e - a) (drop a l) ≡ take w (drop a l)
+    by true t =
+        let k : a + w ≤ length l = leb-true (a + w) (length l) t in
+        ap (λ (v : ℕ). take v (drop a l)) (let q : e - a ≡ w = omega arith in q)
+    by false t =
+        let k : length l < a + w = leb-false (a + w) (length l) t in
+        take_all (e - a) (drop a l) (omega (arith, length-drop a l)) ∙ sym (take_all w (drop a l) (omega (arith, length-drop a l)))
 
 -- what is still to be searched decides: none of the first i stands at the rank
 pub record Search (r : ℕ) (l : List Float) (i : ℕ) : Type 0 where

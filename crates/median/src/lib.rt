@@ -1,7 +1,7 @@
-// The median by rank: no sorting, no copy. Counting loops without a way out, so that they can run several lanes wide.
+// The median by rank: no sorting, no copy.
 #![tactic(auto)]
 
-ghost use Rattle.std.specs.Prelude.{◌≡◌, ◌*◌, ◌<◌, length};
+ghost use Rattle.std.specs.Prelude.{◌≡◌, ◌*◌, ◌<◌, Bool, Float, length};
 ghost use Rattle.std.specs.Float.Ieee.{lt, le};
 ghost use Rattle.laws.specs.Lists.{count};
 ghost use Rattle.model.specs.Layout.{block_channels};
@@ -9,26 +9,14 @@ ghost use Rattle.model.specs.Bank.{block, stands_at, ranked, median};
 
 use model::layout::BLOCK_CHANNELS;
 
-fn count_below(l: &[f64], x: f64) -> usize
-    ensures { result ≡ count (λ y. lt y x) l.now }
+// How many pass a test: a loop without a way out, so that it can run several lanes wide.
+fn count_of<F: Fn(f64) -> bool>(l: &[f64], passes: F) -> usize
+    requires { F.IsAlwaysCallable passes }
+    ensures { (p : Float → Bool) → ((x : Float) (r : Bool) → F.post passes x r → r ≡ p x) → result ≡ count p l.now }
 {
     let mut n: usize = 0;
-    let mut i: usize = 0;
-    while i < l.len() {
-        n += (l[i] < x) as usize;
-        i += 1;
-    }
-    n
-}
-
-fn count_not_above(l: &[f64], x: f64) -> usize
-    ensures { result ≡ count (λ y. le y x) l.now }
-{
-    let mut n: usize = 0;
-    let mut i: usize = 0;
-    while i < l.len() {
-        n += (l[i] <= x) as usize;
-        i += 1;
+    for &x in l {
+        n += usize::from(passes(x));
     }
     n
 }
@@ -36,10 +24,7 @@ fn count_not_above(l: &[f64], x: f64) -> usize
 fn stands_at(l: &[f64], rank: usize, x: f64) -> bool
     ensures { result ≡ stands_at rank l.now x }
 {
-    if count_below(l, x) > rank {
-        return false;
-    }
-    rank < count_not_above(l, x)
+    count_of(l, |y| y < x) <= rank && rank < count_of(l, |y| y <= x)
 }
 
 // The first value that stands at the rank; only of values among which is a NaN does none.
@@ -47,17 +32,15 @@ fn ranked_value(l: &[f64], rank: usize) -> f64
     requires { 0 < length l.now }
     ensures { result ≡ ranked rank l.now }
 {
-    let mut i: usize = 0;
-    while i < l.len() {
-        let x = l[i];
+    for &x in l {
         if stands_at(l, rank, x) {
             return x;
         }
-        i += 1;
     }
     l[0]
 }
 
+#[tactic(auto, unfolding(model::specs::Bank::median))]
 pub fn median(l: &[f64]) -> f64
     requires { 0 < length l.now }
     ensures { result ≡ median l.now }
@@ -77,9 +60,6 @@ pub fn block_median(l: &[f64], i: usize) -> f64
     ensures { result ≡ median (block i l.now) }
 {
     let a = BLOCK_CHANNELS * i;
-    if l.len() - a < BLOCK_CHANNELS {
-        return median(&l[a..]);
-    }
-    let e = a + BLOCK_CHANNELS;
+    let e = (a + BLOCK_CHANNELS).min(l.len());
     median(&l[a..e])
 }

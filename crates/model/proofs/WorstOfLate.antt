@@ -16,7 +16,8 @@ use Rattle.model.specs.Calls.{bank_update_call}
 use Rattle.model.specs.Readings.{effective_at}
 use Rattle.model.specs.MapCalls.{map_write_call, gate_update_if, gate_hold_if}
 use Rattle.model.specs.Worst.{Worst, fresh_worst, ring_of, worst_of, floors_taken, taken_at, worst_step, in_turn, worst_at, highest, latest}
-use Rattle.model.specs.WorstCalls.{beside_refusal, worst_read_refusal, update_if, worst_reading_of, worst_reading}
+use Rattle.model.specs.WorstCalls.{beside_refusal, worst_read_refusal, update_if, worst_reading}
+use Rattle.refusals.specs.Readings.{reading}
 use Rattle.model.specs.Demand3.{Asked, AskedWith, with, exported, Call, bank, gate, hold, write, Stores, does, step, answer, left, left_by, answers, bank_hop, bank_in, Making, Lent, made}
 use Rattle.model.specs.Sets.{worst_in}
 use Rattle.model.specs.WorstOfLate.{carries, asked_plain, plain, counts, slow_bank, slow_banks, floors_in, Fresh, WorstIs, WorstSound, SameBut, Unnoticed}
@@ -209,7 +210,7 @@ unfolding worst_reading worst_at
 worst_is m p d cs k l =
     let q = after m p d cs in
     let s = left_by (made m p) cs in
-    ap₂ worst_reading_of (read-passes s k q.bank (worst-sound m p d cs) (subst (λ (n : ℕ). k < n) (sym q.bank_n) l))
+    ap₂ reading (read-passes s k q.bank (worst-sound m p d cs) (subst (λ (n : ℕ). k < n) (sym q.bank_n) l))
     (ap highest (q.floors k l ∙ sym (map-latest (λ (b : FloorBank). effective_at b k) p.W (slow_banks (made m p) cs))))
 
 pub unnoticed : Unnoticed

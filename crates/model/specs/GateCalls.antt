@@ -1,5 +1,5 @@
 -- The gate's calls: their refusals in document 01's order, what they answer and leave. A refusal changes nothing.
-use Rattle.std.specs.Prelude.{Bool, true, false, not, cond, ◌&&◌, ◌||◌, List, [], ◌∷◌, ℕ, zero, suc, ◌+◌, ◌-◌, eqb, ltb, leb, length, get_or, ℤ, pos, negsuc, Float}
+use Rattle.std.specs.Prelude.{Bool, true, false, not, cond, ◌&&◌, ◌||◌, List, [], ◌∷◌, ℕ, zero, suc, ◌+◌, ◌-◌, eqb, ltb, leb, length, get_or, ℤ, pos, negsuc, Float, Result}
 use Rattle.std.specs.Float.Ieee.{of_int}
 use Rattle.std.specs.Float.{binary64}
 use Rattle.laws.specs.Lists.{one}
@@ -8,10 +8,9 @@ use Rattle.model.specs.Numbers.{f0}
 use Rattle.model.specs.Bank.{FloorBank}
 use Rattle.model.specs.Stores.{bank_of}
 use Rattle.model.specs.Refusals.{bank_refusal}
-use Rattle.model.specs.Readings.{reading}
+use Rattle.refusals.specs.Readings.{reading}
 use Rattle.model.specs.Gate.{Gate, Settings, distinct, fresh_gate, update_step, hold_step, early_rise, rise_bytes, drop_bytes}
 use Rattle.model.specs.GateStores.{gate_u16s, gate_floats, gate_of, floats, gate_f_len, sound_gate}
-use Rattle.model.specs.declared.Reading.{Reading}
 
 -- ---- making: 1, 3, 4, 2
 
@@ -123,12 +122,12 @@ gate_hold_call bu bf gu gf rise drop =
 -- ---- readings
 
 -- the gate's smoothed dB: the gate, then 7
-unfoldable pub smoothed_reading : List ℕ → List Float → ℕ → Reading
+unfoldable pub smoothed_reading : List ℕ → List Float → ℕ → Result Float ℕ
 smoothed_reading u f k =
     reading (or_else (gate_refusal u f) (first (not (ltb k (get_or u 0 0))) 7 0)) (get_or (gate_of u f).smooth k f0)
 
 -- early rise alone as 1 or 0 (0 before the first gate update or with early absent): bank, gate, 8, then 7
-unfoldable pub early_reading : List ℕ → List Float → List ℕ → List Float → ℕ → Reading
+unfoldable pub early_reading : List ℕ → List Float → List ℕ → List Float → ℕ → Result Float ℕ
 early_reading bu bf gu gf k =
     let g = gate_of gu gf in
     reading (or_else (pair_refusal bu bf gu gf) (first (not (ltb k (get_or gu 0 0))) 7 0))

@@ -1,5 +1,5 @@
 -- Document 01, "Readings", the bank's half.
-use Rattle.std.specs.Prelude.{◌≡◌, cond, false, List, ℕ, zero, suc, ◌+◌, ◌-◌, ◌*◌, ◌/◌, ◌%◌, eqb, get_or, Float}
+use Rattle.std.specs.Prelude.{◌≡◌, cond, false, List, ℕ, ◌+◌, ◌-◌, ◌*◌, ◌/◌, ◌%◌, eqb, get_or, Float, Result}
 use Rattle.std.specs.Borrow.{Bor}
 use Rattle.std.specs.Float.{inf}
 use Rattle.laws.specs.Lists.{part}
@@ -8,12 +8,9 @@ use Rattle.model.specs.Layout.{ring_len, channel_len, block_channels}
 use Rattle.model.specs.Ring.{since}
 use Rattle.model.specs.Bank.{FloorBank, channel, effective_floor}
 use Rattle.model.specs.Stores.{base, bank_of}
+use Rattle.refusals.specs.Readings.{reading}
 use Rattle.model.specs.Refusals.{read_refusal}
-use Rattle.model.specs.declared.Reading.{Reading}
-use Rattle.model.specs.declared.Reading.TheVariants as R
 use Rattle.model.specs.declared.Floors.{Floors}
-use Rattle.model.specs.declared.FloorsReading.{FloorsReading}
-use Rattle.model.specs.declared.FloorsReading.TheVariants as F
 
 -- ---- the values, of a bank
 
@@ -44,31 +41,18 @@ reference_at b c =
     fmin (fmin (fmin (fmin (fmin (fmin (inf false) (s (below n c 4))) (s (below n c 3))) (s (below n c 2))) (s (above n c 2))) (s (above n c 3)))
     (s (above n c 4))
 
--- ---- a reading: a value, or a refusal number
+-- ---- the readings: a value, or a refusal number
 
-abbrev pub reading : ℕ → Float → Reading
-reading zero x = R.Value x
-reading (suc r) x = R.Refused (suc r)
-
--- this paper's number of a reading, and its value; d where it has none
-abbrev pub number : Reading → ℕ
-number (R.Value x) = 0
-number (R.Refused r) = r
-
-abbrev pub value_or : Float → Reading → Float
-value_or d (R.Value x) = x
-value_or d (R.Refused r) = d
-
-unfoldable pub raw_reading : List ℕ → List Float → ℕ → Reading
+unfoldable pub raw_reading : List ℕ → List Float → ℕ → Result Float ℕ
 raw_reading u f k = reading (read_refusal u f k) (raw_at (bank_of u f) k)
 
-unfoldable pub effective_reading : List ℕ → List Float → ℕ → Reading
+unfoldable pub effective_reading : List ℕ → List Float → ℕ → Result Float ℕ
 effective_reading u f k = reading (read_refusal u f k) (effective_at (bank_of u f) k)
 
-unfoldable pub rise_reading : List ℕ → List Float → ℕ → Reading
+unfoldable pub rise_reading : List ℕ → List Float → ℕ → Result Float ℕ
 rise_reading u f k = reading (read_refusal u f k) (rise_at (bank_of u f) k)
 
-unfoldable pub reference_reading : List ℕ → List Float → ℕ → Reading
+unfoldable pub reference_reading : List ℕ → List Float → ℕ → Result Float ℕ
 reference_reading u f k = reading (read_refusal u f k) (reference_at (bank_of u f) k)
 
 -- ---- the three floors at once
@@ -76,20 +60,8 @@ reference_reading u f k = reading (read_refusal u f k) (reference_at (bank_of u 
 unfoldable pub floors_at : FloorBank → ℕ → Floors
 floors_at b k = record { effective = effective_at b k; rise = rise_at b k; raw = raw_at b k }
 
-abbrev pub floors_reading_of : ℕ → Floors → FloorsReading
-floors_reading_of zero x = F.Value x
-floors_reading_of (suc r) x = F.Refused (suc r)
-
-abbrev pub floors_number : FloorsReading → ℕ
-floors_number (F.Value x) = 0
-floors_number (F.Refused r) = r
-
-abbrev pub floors_or : Floors → FloorsReading → Floors
-floors_or d (F.Value x) = x
-floors_or d (F.Refused r) = d
-
-unfoldable pub floors_reading : List ℕ → List Float → ℕ → FloorsReading
-floors_reading u f k = floors_reading_of (read_refusal u f k) (floors_at (bank_of u f) k)
+unfoldable pub floors_reading : List ℕ → List Float → ℕ → Result Floors ℕ
+floors_reading u f k = reading (read_refusal u f k) (floors_at (bank_of u f) k)
 
 -- ---- the ring of channel k, as the very part of the lent store that it occupies
 

@@ -1,7 +1,7 @@
 -- R-6 of document 02, stated: "It must equal the maximum over those hops for every list of such updates from a fresh bank and store of equal n, and
 -- a store so reached is always sound". The words in quotes are document 02's. Stores, calls and lists of calls are demand 3's, so gate updates, holds,
 -- writes to the map and refused calls may stand among the updates. The proofs are `worst_is`, `worst-sound` and `unnoticed` in proofs/WorstOfLate.antt.
-use Rattle.std.specs.Prelude.{◌≡◌, Bool, true, false, ◌&&◌, List, [], ◌∷◌, ◌++◌, map, ℕ, ◌<◌, eqb, Float}
+use Rattle.std.specs.Prelude.{◌≡◌, Bool, true, false, ◌&&◌, List, [], ◌∷◌, ◌++◌, map, ℕ, ◌<◌, eqb, Float, Ok}
 use Rattle.model.specs.Bank.{FloorBank}
 use Rattle.model.specs.Readings.{effective_at}
 use Rattle.model.specs.Worst.{highest, latest}
@@ -56,7 +56,7 @@ abbrev pub WorstIs : Type 0
 WorstIs =
     (m : Making) (p : Lent) → Fresh m p → (cs : List Call) (k : ℕ) → k < m.n
     → let s = left_by (made m p) cs in
-    worst_reading s.bu s.bf s.wu s.wf k ≡ highest (floors_in k (latest p.W (slow_banks (made m p) cs)))
+    worst_reading s.bu s.bf s.wu s.wf k ≡ Ok (highest (floors_in k (latest p.W (slow_banks (made m p) cs))))
 
 -- "a store so reached is always sound", and its bank, and they are of equal n: no call on them is refused with 2, 8 or 9
 abbrev pub WorstSound : Type 0

@@ -12,9 +12,10 @@ use Rattle.model.specs.Numbers.{f3, fmin, fmax}
 use Rattle.model.specs.Bank.{seed_of, not_below, effective_floor, rise_floor}
 use Rattle.model.specs.Stores.{bank_of}
 use Rattle.model.specs.Refusals.{read_refusal}
-use Rattle.model.specs.Readings.{reading, effective_at, effective_reading}
-use Rattle.model.specs.declared.Reading.TheVariants as Read
-use Rattle.origins.specs.Origins.{effective_db, rise_db, later_of_min, later_of_max, seed_named, effective_origin, rise_origin, of_channel, explanation_at, explained_of, explained_number, explained}
+use Rattle.refusals.specs.Readings.{reading, number}
+use Rattle.model.specs.Readings.{effective_at, effective_reading}
+use Rattle.std.specs.Prelude.{Ok}
+use Rattle.origins.specs.Origins.{effective_db, rise_db, later_of_min, later_of_max, seed_named, effective_origin, rise_origin, of_channel, explanation_at, explained}
 use Rattle.origins.specs.Explains.{EffectiveNamed, RiseNamed, Named, RefusedAsRead, effective_of, rise_of, EffectiveExplained, RiseExplained}
 use Rattle.origins.specs.declared.EffectiveOrigin.TheVariants as E
 use Rattle.origins.specs.declared.RiseOrigin.TheVariants as R
@@ -208,7 +209,7 @@ named u f e pushes sum = (effective-named u f e pushes sum, rise-named u f e pus
 
 -- ---- of lent stores
 
-numbered : (r : ℕ) (x : Explanation) → explained_number (explained_of r x) ≡ r
+numbered : (r : ℕ) (x : Explanation) → number (reading r x) ≡ r
 numbered zero x = refl
 numbered (suc r) x = refl
 
@@ -216,12 +217,12 @@ pub refused-as-read : RefusedAsRead
 unfolding explained
 refused-as-read u f k = numbered (read_refusal u f k) (explanation_at (bank_of u f) k)
 
-effective-reads : (r : ℕ) (x : Explanation) (v : Float) → effective_db x.effective ≡ v → effective_of (explained_of r x) ≡ reading r v
-effective-reads zero x v h = ap Read.Value h
+effective-reads : (r : ℕ) (x : Explanation) (v : Float) → effective_db x.effective ≡ v → effective_of (reading r x) ≡ reading r v
+effective-reads zero x v h = ap Ok h
 effective-reads (suc r) x v h = refl
 
-rise-reads : (r : ℕ) (x : Explanation) (v : Float) → rise_db x.rise ≡ v → rise_of (explained_of r x) ≡ reading r v
-rise-reads zero x v h = ap Read.Value h
+rise-reads : (r : ℕ) (x : Explanation) (v : Float) → rise_db x.rise ≡ v → rise_of (reading r x) ≡ reading r v
+rise-reads zero x v h = ap Ok h
 rise-reads (suc r) x v h = refl
 
 pub effective-explained : EffectiveExplained

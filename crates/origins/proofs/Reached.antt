@@ -17,7 +17,8 @@ use Rattle.model.specs.Bank.{FloorBank, Hop, blocks, fresh_channel, fresh_bank, 
 use Rattle.model.specs.Stores.{bank_of}
 use Rattle.model.specs.Refusals.{bank_refusal, read_refusal, update_refusal}
 use Rattle.model.specs.Calls.{leaves, bank_update_call}
-use Rattle.model.specs.Readings.{reading, rise_at, rise_reading}
+use Rattle.refusals.specs.Readings.{reading}
+use Rattle.model.specs.Readings.{rise_at, rise_reading}
 use Rattle.model.specs.GoodBank.{Good}
 use Rattle.model.specs.Reach.{Stores, BankCall, update, stores_in, left, left_by, stores_of, SoundStores}
 use Rattle.model.proofs.GoodBanks.{bank-back, good-ready}

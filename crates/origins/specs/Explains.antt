@@ -1,5 +1,5 @@
 -- Document 02, R-4: what an explanation can be relied on for. The proofs are in proofs/Explains.antt and proofs/Reached.antt.
-use Rattle.std.specs.Prelude.{◌≡◌, true, List, ℕ, ◌≤◌, ◌<◌, Float}
+use Rattle.std.specs.Prelude.{◌≡◌, true, List, ℕ, ◌≤◌, ◌<◌, Float, Result, Ok, Err}
 use Rattle.std.specs.Float.{binary64}
 use Rattle.std.specs.Float.Ieee.{add, eq, is_nan}
 use Rattle.model.specs.Layout.{ring_len}
@@ -7,17 +7,15 @@ use Rattle.model.specs.Numbers.{f3, fmin, fmax}
 use Rattle.model.specs.Bank.{fresh_bank, seed_of, effective_floor, rise_floor}
 use Rattle.model.specs.Stores.{bank_of}
 use Rattle.model.specs.Refusals.{read_refusal}
-use Rattle.model.specs.Readings.{reading, effective_reading, rise_reading}
+use Rattle.refusals.specs.Readings.{reading, number}
+use Rattle.model.specs.Readings.{effective_reading, rise_reading}
 use Rattle.model.specs.Reach.{Stores, BankCall, left_by, stores_of}
-use Rattle.model.specs.declared.Reading.{Reading}
-use Rattle.model.specs.declared.Reading.TheVariants as Read
-use Rattle.origins.specs.Origins.{effective_number, effective_db, rise_number, rise_db, effective_origin, rise_origin, of_channel, explained_number, explained}
+use Rattle.origins.specs.Origins.{effective_number, effective_db, rise_number, rise_db, effective_origin, rise_origin, of_channel, explained}
+use Rattle.origins.specs.declared.Explanation.{Explanation}
 use Rattle.origins.specs.declared.EffectiveOrigin.{EffectiveOrigin}
 use Rattle.origins.specs.declared.EffectiveOrigin.TheVariants as E
 use Rattle.origins.specs.declared.RiseOrigin.{RiseOrigin}
 use Rattle.origins.specs.declared.RiseOrigin.TheVariants as R
-use Rattle.origins.specs.declared.Explained.{Explained}
-use Rattle.origins.specs.declared.Explained.TheVariants as X
 
 -- ---- of one channel's five numbers, any floats among them
 
@@ -63,16 +61,16 @@ Named =
 
 -- refusals are those of a reading
 abbrev pub RefusedAsRead : Type 0
-RefusedAsRead = (u : List ℕ) (f : List Float) (k : ℕ) → explained_number (explained u f k) ≡ read_refusal u f k
+RefusedAsRead = (u : List ℕ) (f : List Float) (k : ℕ) → number (explained u f k) ≡ read_refusal u f k
 
 -- the two floors explained, as readings
-abbrev pub effective_of : Explained → Reading
-effective_of (X.By x) = Read.Value (effective_db x.effective)
-effective_of (X.Refused r) = Read.Refused r
+abbrev pub effective_of : Result Explanation ℕ → Result Float ℕ
+effective_of (Ok x) = Ok (effective_db x.effective)
+effective_of (Err r) = Err r
 
-abbrev pub rise_of : Explained → Reading
-rise_of (X.By x) = Read.Value (rise_db x.rise)
-rise_of (X.Refused r) = Read.Refused r
+abbrev pub rise_of : Result Explanation ℕ → Result Float ℕ
+rise_of (Ok x) = Ok (rise_db x.rise)
+rise_of (Err r) = Err r
 
 -- the effective floor explained is the effective reading of the same stores ..
 abbrev pub EffectiveExplained : Type 0
@@ -84,7 +82,7 @@ RiseExplained =
     (u : List ℕ) (f : List Float) (k : ℕ) → rise_of (explained u f k) ≡ reading (read_refusal u f k) (of_channel rise_floor (bank_of u f) k)
 
 -- From a fresh bank, after any list of calls, it is the rise reading, too, which is read as stored
-abbrev pub rise_reading_of : Stores → ℕ → Reading
+abbrev pub rise_reading_of : Stores → ℕ → Result Float ℕ
 rise_reading_of s k = rise_reading s.u s.f k
 
 abbrev pub RiseReached : Type 0

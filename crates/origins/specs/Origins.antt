@@ -1,5 +1,5 @@
 -- Document 02, R-4: where a floor comes from. Both floors are worked out from the store for this, by the formulas of document 01.
-use Rattle.std.specs.Prelude.{Bool, cond, not, ◌&&◌, List, ℕ, zero, suc, ◌/◌, ltb, get_or, Float}
+use Rattle.std.specs.Prelude.{Bool, cond, not, ◌&&◌, List, ℕ, ◌/◌, ltb, get_or, Float, Result}
 use Rattle.std.specs.Float.{binary64}
 use Rattle.std.specs.Float.Ieee.{add, lt, is_nan}
 use Rattle.model.specs.Layout.{ring_len, block_channels}
@@ -7,14 +7,13 @@ use Rattle.model.specs.Numbers.{f0, f3, fmin, fmax}
 use Rattle.model.specs.Ring.{since}
 use Rattle.model.specs.Bank.{FloorBank, channel, seed_of, effective_floor}
 use Rattle.model.specs.Stores.{bank_of}
+use Rattle.refusals.specs.Readings.{reading}
 use Rattle.model.specs.Refusals.{read_refusal}
 use Rattle.origins.specs.declared.EffectiveOrigin.{EffectiveOrigin}
 use Rattle.origins.specs.declared.EffectiveOrigin.TheVariants as E
 use Rattle.origins.specs.declared.RiseOrigin.{RiseOrigin}
 use Rattle.origins.specs.declared.RiseOrigin.TheVariants as R
 use Rattle.origins.specs.declared.Explanation.{Explanation}
-use Rattle.origins.specs.declared.Explained.{Explained}
-use Rattle.origins.specs.declared.Explained.TheVariants as X
 
 -- ---- the origins, each carrying its dB value, numbered in document 02's order
 
@@ -88,17 +87,5 @@ explanation_at b k = record { effective = of_channel effective_origin b k; rise 
 
 -- ---- explained, or refused as a reading is
 
-abbrev pub explained_of : ℕ → Explanation → Explained
-explained_of zero x = X.By x
-explained_of (suc r) x = X.Refused (suc r)
-
-abbrev pub explained_number : Explained → ℕ
-explained_number (X.By x) = 0
-explained_number (X.Refused r) = r
-
-abbrev pub explanation_or : Explanation → Explained → Explanation
-explanation_or d (X.By x) = x
-explanation_or d (X.Refused r) = d
-
-unfoldable pub explained : List ℕ → List Float → ℕ → Explained
-explained u f k = explained_of (read_refusal u f k) (explanation_at (bank_of u f) k)
+unfoldable pub explained : List ℕ → List Float → ℕ → Result Explanation ℕ
+explained u f k = reading (read_refusal u f k) (explanation_at (bank_of u f) k)

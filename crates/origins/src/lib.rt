@@ -5,7 +5,7 @@ ghost use Rattle.std.specs.Prelude.{◌≡◌};
 ghost use Rattle.origins.specs.Origins.{effective_number, effective_db, rise_number, rise_db};
 
 // The rule that yields the effective floor.
-#[derive(Clone, Copy)]
+#[derive(Clone, Copy, Debug, PartialEq)]
 pub enum EffectiveOrigin {
     OwnQuartile(f64),
     BlockPlus3(f64),
@@ -13,7 +13,7 @@ pub enum EffectiveOrigin {
 }
 
 // The rule that yields the rise floor.
-#[derive(Clone, Copy)]
+#[derive(Clone, Copy, Debug, PartialEq)]
 pub enum RiseOrigin {
     EffectiveFloor(f64),
     Block(f64),
@@ -21,20 +21,14 @@ pub enum RiseOrigin {
 }
 
 // Where the two floors of one channel come from.
-#[derive(Clone, Copy)]
+#[derive(Clone, Copy, Debug, PartialEq)]
 pub struct Explanation {
     pub effective: EffectiveOrigin,
     pub rise: RiseOrigin,
 }
 
-// The explanation of a channel, or the number of a refusal.
-#[derive(Clone, Copy)]
-pub enum Explained {
-    By(Explanation),
-    Refused(u16),
-}
-
 // An origin's number in document 02's order, and the dB that it carries.
+// Two of each, and no trait over the two enums: its laws would name these four definitions again, and take more lines than the matches.
 pub fn effective_number(origin: EffectiveOrigin) -> u8
     ensures { result ≡ effective_number origin }
 {
@@ -49,9 +43,9 @@ pub fn effective_db(origin: EffectiveOrigin) -> f64
     ensures { result ≡ effective_db origin }
 {
     match origin {
-        EffectiveOrigin::OwnQuartile(db) => db,
-        EffectiveOrigin::BlockPlus3(db) => db,
-        EffectiveOrigin::Seed(db) => db,
+        EffectiveOrigin::OwnQuartile(db)
+        | EffectiveOrigin::BlockPlus3(db)
+        | EffectiveOrigin::Seed(db) => db,
     }
 }
 
@@ -69,8 +63,6 @@ pub fn rise_db(origin: RiseOrigin) -> f64
     ensures { result ≡ rise_db origin }
 {
     match origin {
-        RiseOrigin::EffectiveFloor(db) => db,
-        RiseOrigin::Block(db) => db,
-        RiseOrigin::Seed(db) => db,
+        RiseOrigin::EffectiveFloor(db) | RiseOrigin::Block(db) | RiseOrigin::Seed(db) => db,
     }
 }

@@ -24,10 +24,8 @@ pub fn start_powers(smooth: &mut [f64], power: &[f32])
     requires { length power.now ≡ length smooth.old }
     ensures { smooth.new ≡ tab (length smooth.old) (λ k. power_linear (slice_index_or power.now k f0)) }
 {
-    let mut i: usize = 0;
-    while i < smooth.len() {
-        smooth[i] = power_linear(power[i]);
-        i += 1;
+    for (k, &p) in power.iter().enumerate() {
+        smooth[k] = power_linear(p);
     }
 }
 
@@ -36,9 +34,7 @@ pub fn smooth_powers(smooth: &mut [f64], power: &[f32])
     requires { length power.now ≡ length smooth.old }
     ensures { smooth.new ≡ tab (length smooth.old) (λ k. smoothed (slice_index_or smooth.old k f0) (power_linear (slice_index_or power.now k f0))) }
 {
-    let mut k: usize = 0;
-    while k < smooth.len() {
-        smooth[k] = smooth_step(smooth[k], power_linear(power[k]));
-        k += 1;
+    for (k, &p) in power.iter().enumerate() {
+        smooth[k] = smooth_step(smooth[k], power_linear(p));
     }
 }

@@ -1,4 +1,5 @@
 // Document 01, "Ring and quartile": a channel's floors, the lower quartile of its ring by nearest rank.
+// A channel's part is a slice with its length in a clause, as `ring` has it.
 #![tactic(auto)]
 
 ghost use Rattle.std.specs.Prelude.{◌≡◌, ◌+◌, ◌≤◌, ◌<◌, length, get_or};
@@ -29,15 +30,14 @@ fn stretch_sum(chan: &[u16], b: usize) -> u16
 {
     let first = COUNTS + b;
     let mut sum: u16 = 0;
-    let mut i: usize = 0;
-    while i < STRETCH {
-        sum += chan[first + i];
-        i += 1;
+    for count in &chan[first..first + STRETCH] {
+        sum += *count;
     }
     sum
 }
 
-// Whole stretches are passed while the counts so far stay below rank.
+// Whole stretches are passed while the counts so far stay below rank. A loop and no `for`, here and below: the rank is reached inside, and a
+// `for` would need an answer behind its end that no call ever gets.
 fn reached_stretch(chan: &[u16], rank: usize) -> Reached
     requires chan_len { (length chan.now ≡ channel_len) × Sound ring_len bins (chan_of chan.now) }
     requires rank_nonzero { (0 < rank) × (rank ≤ (chan_of chan.now).filled) }
@@ -47,12 +47,9 @@ fn reached_stretch(chan: &[u16], rank: usize) -> Reached
     let mut passed: usize = 0;
     let mut b: usize = 0;
     loop {
-        let with_next = passed + laws::wide(stretch_sum(chan, b));
+        let with_next = passed + usize::from(stretch_sum(chan, b));
         if with_next >= rank {
-            return Reached {
-                bin: b,
-                passed: passed,
-            };
+            return Reached { bin: b, passed };
         }
         passed = with_next;
         b += STRETCH;
@@ -69,8 +66,9 @@ fn ranked_bin(chan: &[u16], rank: usize) -> u16
     let mut passed = from.passed;
     let mut b = from.bin;
     loop {
-        passed += laws::wide(chan[COUNTS + b]);
+        passed += usize::from(chan[COUNTS + b]);
         if passed >= rank {
+            // What is cut to fewer bits here fits in them, which is proved.
             return b as u16;
         }
         b += 1;
@@ -83,13 +81,15 @@ fn quartile(chan: &[u16], skip: usize) -> f64
     requires skip_bound { skip ≤ get_or chan.now at_counts 0 }
     ensures { result ≡ quartile skip (chan_of chan.now) }
 {
-    let left = laws::wide(chan[FILLED]) - skip;
+    let left = usize::from(chan[FILLED]) - skip;
     if left == 0 {
-        return HIST_MIN_DB;
+        HIST_MIN_DB
+    } else {
+        ring::bin_centre(ranked_bin(chan, skip + (left + 3) / 4))
     }
-    ring::bin_centre(ranked_bin(chan, skip + (left + 3) / 4))
 }
 
+#[tactic(auto, unfolding(model::specs::Ring::raw_floor))]
 pub fn raw_floor(chan: &[u16]) -> f64
     requires { (length chan.now ≡ channel_len) × Sound ring_len bins (chan_of chan.now) }
     ensures { result ≡ raw_floor (chan_of chan.now) }
@@ -104,11 +104,9 @@ pub fn usable_floor(chan: &[u16], raw: f64) -> f64
     ensures { result ≡ usable_floor (chan_of chan.now) }
 {
     let lead = chan[LEAD];
-    if lead == 0 {
-        return raw;
+    if lead == 0 || lead == chan[FILLED] {
+        raw
+    } else {
+        quartile(chan, usize::from(lead))
     }
-    if lead == chan[FILLED] {
-        return raw;
-    }
-    quartile(chan, laws::wide(lead))
 }

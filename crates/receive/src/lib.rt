@@ -2,9 +2,13 @@
 #![tactic(auto)]
 
 ghost use Rattle.std.specs.Prelude.{◌≡◌};
+ghost use Rattle.refusals.specs.Numbers.{answer};
 ghost use Rattle.run_model.specs.Runs.{alone, run_refusal, received};
 ghost use Rattle.run_model.specs.Hops.{HopFits, Stepped};
 
+use refusals::Refusal;
+
+// Slices and no struct of them: behind a struct of `&mut` an ensures reads store.exit.0.now, and C lends them one by one.
 // One hop of a run that is not refused: with a hold of 0 the bank's update and the gate's, else the bank's with its reference held, and
 // the gate's marks again.
 fn take_hop(
@@ -31,6 +35,7 @@ fn take_hop(
 }
 
 // Hop after hop: the next n places are read, and the next n are marked.
+// Places are counted, and no chunks zipped: a hop and parts of four slices would come as pairs in pairs, which reads no plainer.
 fn run(
     bank: &mut [u16],
     bank_f: &mut [f64],
@@ -45,11 +50,10 @@ fn run(
     requires { run_refusal bank.old bank_f.old gate.old gate_f.old (record { hold = hold.now; db = power_db.now; power = power.now; rise = rise.old; drop = drop.old }) ≡ 0 }
     ensures { (0, bank.new, bank_f.new, gate.new, gate_f.new, rise.new, drop.new) ≡ received bank.old bank_f.old gate.old gate_f.old (record { hold = hold.now; db = power_db.now; power = power.now; rise = rise.old; drop = drop.old }) }
 {
-    let n = laws::wide(gate[0]);
+    let n = usize::from(gate[0]);
     let mut at: usize = 0;
     let mut marks: usize = 0;
-    let mut i: usize = 0;
-    while i < hold.len() {
+    for held in hold {
         let e = at + n;
         let marked = marks + n;
         take_hop(
@@ -57,7 +61,7 @@ fn run(
             bank_f,
             gate,
             gate_f,
-            hold[i],
+            *held,
             &power_db[at..e],
             &power[at..e],
             &mut rise[marks..marked],
@@ -65,7 +69,6 @@ fn run(
         );
         at = e;
         marks = marked;
-        i += 1;
     }
 }
 
@@ -80,10 +83,10 @@ pub fn receive(
     power: &[f32],
     rise: &mut [u8],
     drop: &mut [u8],
-) -> u16
-    ensures { (result, bank.new, bank_f.new, gate.new, gate_f.new, rise.new, drop.new) ≡ received bank.old bank_f.old gate.old gate_f.old (record { hold = hold.now; db = power_db.now; power = power.now; rise = rise.old; drop = drop.old }) }
+) -> Result<(), Refusal>
+    ensures { (answer result, bank.new, bank_f.new, gate.new, gate_f.new, rise.new, drop.new) ≡ received bank.old bank_f.old gate.old gate_f.old (record { hold = hold.now; db = power_db.now; power = power.now; rise = rise.old; drop = drop.old }) }
 {
-    let refusal = run_refusals::run_refusal(
+    run_refusals::run_refusal(
         bank,
         bank_f,
         gate,
@@ -93,12 +96,9 @@ pub fn receive(
         power.len(),
         rise.len(),
         drop.len(),
-    );
-    if refusal != 0 {
-        return refusal;
-    }
+    )?;
     run(
         bank, bank_f, gate, gate_f, hold, power_db, power, rise, drop,
     );
-    0
+    Ok(())
 }

@@ -3,6 +3,6 @@
 
 pub mod compare;
 pub mod hop;
-pub mod list;
 pub mod marks;
 pub mod state;
+pub mod stores;

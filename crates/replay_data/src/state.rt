@@ -1,10 +1,10 @@
 // How far a replay is, and what it has counted.
-ghost use Rattle.std.specs.Prelude.{◌<◌};
+ghost use Rattle.std.specs.Prelude.{◌≡◌, ◌+◌, ◌*◌, ◌/◌, ◌<◌, ◌≤◌};
+ghost use Rattle.low_first.specs.LowFirst.{byte_at as byte_of};
 
-use crate::list::{after, index};
-use low_first::{byte_at, two_bytes};
+use low_first::{byte_at, double_at, eight_bytes, two_bytes};
 use model::layout::{BLOCK_CHANNELS, BLOCK_REST, CHANNEL_LEN};
-use std::num::wrapping_add_u64;
+use std::num::{wrapping_add_u64, wrapping_add_usize};
 
 // The largest bank of the list has 33 channels.
 pub const MOST: usize = 33;
@@ -23,102 +23,99 @@ pub const MOST_GATE_F_LEN: usize = 2314;
 // The records start behind the tables.
 const RECORDS: usize = 3072;
 
-// How long the stores of a bank of n are.
-pub fn store_len(n: u8) -> usize {
-    let n = index(n);
-    3 + (n + BLOCK_REST) / BLOCK_CHANNELS + CHANNEL_LEN * n
+// A place in the list, which is far shorter than any number that wraps.
+pub fn after(at: usize, bytes: usize) -> usize {
+    wrapping_add_usize(at, bytes)
 }
 
-pub fn store_f_len(n: u8) -> usize
-    ensures { result < 1100 }
-{
-    let n = index(n);
-    4 * n + 2 * ((n + BLOCK_REST) / BLOCK_CHANNELS)
-}
-
-// hop is where the hop of the last single bank update stands; n is the bank's; floats is how long the gate's f64 store is.
+// The list, where its next record stands and where the hop of the last single bank update; n is the bank's; floats is how long the gate's f64
+// store is.
 #[derive(Clone, Copy)]
-pub struct Replay {
+pub struct Replay<'a> {
+    pub list: &'a [u8],
     pub at: usize,
     pub hop: usize,
-    pub n: u8,
-    pub floats: u16,
-    pub is_on: bool,
+    pub n: usize,
+    pub floats: usize,
     pub records: u64,
     pub differences: u64,
+    ghost few_channels: { n ≤ 33 },
+    ghost few_floats: { floats ≤ 2314 },
 }
 
-pub fn started() -> Replay {
-    Replay {
-        at: RECORDS,
-        hop: RECORDS,
-        n: 0,
-        floats: 0,
-        is_on: true,
-        records: 0,
-        differences: 0,
+impl<'a> Replay<'a> {
+    pub fn new(list: &'a [u8]) -> Replay<'a> {
+        Replay {
+            list,
+            at: RECORDS,
+            hop: RECORDS,
+            n: 0,
+            floats: 0,
+            records: 0,
+            differences: 0,
+        }
     }
-}
 
-// The replay after a record of so many bytes.
-pub fn passed(r: Replay, bytes: usize, differences: u64) -> Replay {
-    Replay {
-        at: after(r.at, bytes),
-        hop: r.hop,
-        n: r.n,
-        floats: r.floats,
-        is_on: true,
-        records: wrapping_add_u64(r.records, 1),
-        differences: wrapping_add_u64(r.differences, differences),
+    // What the next record says, so many bytes behind its start.
+    pub fn byte(self, i: usize) -> u8
+        ensures { result ≡ byte_of self.entry.list.now (self.entry.at + i) }
+    {
+        byte_at(self.list, self.at, i)
     }
-}
 
-pub fn ended(mut r: Replay) -> Replay {
-    r.is_on = false;
-    r
-}
-
-// The hop of a bank's update stands behind the record's first two bytes.
-fn hop_of(list: &[u8], r: Replay) -> usize {
-    if byte_at(list, r.at, 0) == 2 {
-        after(r.at, 2)
-    } else {
-        r.hop
+    pub fn index(self, i: usize) -> usize
+        ensures { (result ≡ byte_of self.entry.list.now (self.entry.at + i)) × (result < 256) }
+    {
+        usize::from(self.byte(i))
     }
-}
 
-// How many channels the bank of the next record has.
-fn channels(list: &[u8], r: Replay) -> u8 {
-    if byte_at(list, r.at, 0) == 1 {
-        byte_at(list, r.at, 1)
-    } else {
-        r.n
+    pub fn two_bytes(self, i: usize) -> u16 {
+        two_bytes(self.list, after(self.at, i))
     }
-}
 
-// How long the f64 store of its gate is.
-fn gate_floats(list: &[u8], r: Replay) -> u16 {
-    if byte_at(list, r.at, 0) == 6 {
-        two_bytes(list, after(r.at, 2))
-    } else {
-        r.floats
+    pub fn eight_bytes(self, i: usize) -> u64 {
+        eight_bytes(self.list, after(self.at, i))
     }
-}
 
-fn fits(n: u8, floats: u16) -> bool {
-    index(n) <= MOST && floats as usize <= MOST_GATE_F_LEN
-}
-
-// The replay with the hop and the sizes of the next record. A list that asks for more than there is has ended.
-pub fn sized(list: &[u8], mut r: Replay) -> Replay {
-    let hop = hop_of(list, r);
-    let n = channels(list, r);
-    let floats = gate_floats(list, r);
-    if !fits(n, floats) {
-        return ended(r);
+    // The replay after a record of so many bytes.
+    pub fn passed(mut self, bytes: usize, differences: u64) -> Replay<'a> {
+        self.at = after(self.at, bytes);
+        self.records = wrapping_add_u64(self.records, 1);
+        self.differences = wrapping_add_u64(self.differences, differences);
+        self
     }
-    r.hop = hop;
-    r.n = n;
-    r.floats = floats;
-    r
+
+    // The replay with the hop and the sizes of the next record: the hop of a bank's update stands behind the record's first two bytes. None
+    // where a list that asks for more than there is ends.
+    pub fn sized(mut self) -> Option<Replay<'a>> {
+        let kind = self.byte(0);
+        let n = if kind == 1 { self.index(1) } else { self.n };
+        let floats = if kind == 6 {
+            usize::from(self.two_bytes(2))
+        } else {
+            self.floats
+        };
+        if n > MOST || floats > MOST_GATE_F_LEN {
+            return None;
+        }
+        if kind == 2 {
+            self.hop = after(self.at, 2);
+        }
+        self.n = n;
+        self.floats = floats;
+        Some(self)
+    }
+
+    // How long the stores of its bank are.
+    pub fn store_len(self) -> usize
+        ensures { (result ≡ 3 + (self.entry.n + 31) / 32 + 573 * self.entry.n) × (result ≤ 18914) }
+    {
+        3 + (self.n + BLOCK_REST) / BLOCK_CHANNELS + CHANNEL_LEN * self.n
+    }
+
+    pub fn store_f_len(self) -> usize
+        ensures { (result ≡ 4 * self.entry.n + 2 * ((self.entry.n + 31) / 32)) × (result ≤ 136) }
+    {
+        4 * self.n + 2 * ((self.n + BLOCK_REST) / BLOCK_CHANNELS)
+    }
 }

@@ -1,84 +1,40 @@
 // The record of a run of hops: one call, with what is due.
 #![tactic(auto)]
 
-use low_first::byte_at;
 use replay_data::hop::fill_hop;
-use replay_data::list::{after, index};
 use replay_data::marks::passed_marks;
-use replay_data::state::{MOST, Replay, ended};
+use replay_data::state::{MOST, Replay, after};
+use replay_data::stores::Stores;
 
 // The longest run of the list has 46 hops.
 const MOST_VALUES: usize = 46 * MOST;
 
-fn values_of(hops: u8, n: u8) -> usize {
-    index(hops) * index(n)
-}
-
-// A run of so many hops, whose holds the list must have whole.
-fn run(
-    list: &[u8],
-    r: Replay,
-    hops: usize,
-    bank: &mut [u16],
-    bank_f: &mut [f64],
-    gate: &mut [u16],
-    gate_f: &mut [f64],
-    db: &mut [f64],
-    power: &mut [f32],
-    rise: &mut [u8],
-    drop: &mut [u8],
-) -> Replay {
-    let holds = after(r.at, 2);
-    let rows = after(holds, hops);
-    if rows < holds || list.len() < rows {
-        return ended(r);
-    }
-    let end = after(after(rows, db.len()), power.len());
-    fill_hop(list, rows, db, power);
-    let answer = receive::receive(
+// 11, hops, the holds, the rows of dB, the rows of power, answer, the rise bytes, the drop bytes: a run of hops. None where a list ends that has
+// a longer one, or not all its holds.
+pub fn replay_run<'a>(r: Replay<'a>, s: Stores) -> Option<Replay<'a>> {
+    let Stores {
         bank,
         bank_f,
         gate,
         gate_f,
-        &list[holds..rows],
-        db,
-        power,
-        rise,
-        drop,
-    );
-    passed_marks(list, r, end, answer, rise, drop)
-}
-
-// 11, hops, the holds, the rows of dB, the rows of power, answer, the rise bytes, the drop bytes: a run of hops. A list with a longer one has
-// ended.
-pub fn replay_run(
-    list: &[u8],
-    r: Replay,
-    bank: &mut [u16],
-    bank_f: &mut [f64],
-    gate: &mut [u16],
-    gate_f: &mut [f64],
-) -> Replay {
+        ..
+    } = s;
     let mut db = [0.0f64; MOST_VALUES];
     let mut power = [0.0f32; MOST_VALUES];
     let mut rise = [0u8; MOST_VALUES];
     let mut drop = [0u8; MOST_VALUES];
-    let hops = byte_at(list, r.at, 1);
-    let values = values_of(hops, r.n);
+    let hops = r.index(1);
+    let values = hops * r.n;
     if values > MOST_VALUES {
-        return ended(r);
+        return None;
     }
-    run(
-        list,
-        r,
-        index(hops),
-        bank,
-        bank_f,
-        gate,
-        gate_f,
-        &mut db[..values],
-        &mut power[..values],
-        &mut rise[..values],
-        &mut drop[..values],
-    )
+    let (db, power) = (&mut db[..values], &mut power[..values]);
+    let (rise, drop) = (&mut rise[..values], &mut drop[..values]);
+    let holds = after(r.at, 2);
+    let rows = after(holds, hops);
+    let hold = r.list.get(holds..rows)?;
+    fill_hop(r.list, rows, db, power);
+    let done = receive::receive(bank, bank_f, gate, gate_f, hold, db, power, rise, drop);
+    let end = after(after(rows, values), values);
+    Some(passed_marks(r, end, done, rise, drop))
 }

@@ -1,4 +1,6 @@
 // Document 01, "Ring and quartile": the bin of a dB value and the push into a channel's ring.
+// A channel's part is a slice with its length in a clause, and no `&mut [u16; CHANNEL_LEN]`: it is cut from a store, and to make an array of
+// it would be a test on every push.
 #![tactic(auto)]
 
 ghost use Rattle.std.specs.Prelude.{◌≡◌, ◌+◌, ◌-◌, ◌%◌, ◌<◌, ◌≤◌, true, ◌&&◌, length, ◌==◌, slice_index};
@@ -21,6 +23,7 @@ pub fn bin_index(p: f64) -> u16
     let z = y / 0.5;
     if z >= 0.0 {
         if z < BINS_F64 {
+            // What is cut to fewer bits here fits in them, which is proved.
             std::num::truncating_f64_to_u64(z) as u16
         } else {
             LAST_BIN
@@ -33,7 +36,7 @@ pub fn bin_index(p: f64) -> u16
 pub fn bin_centre(b: u16) -> f64
     ensures { result ≡ centre_of b }
 {
-    HIST_MIN_DB + ((b as f64) + 0.5) * 0.5
+    HIST_MIN_DB + (f64::from(b) + 0.5) * 0.5
 }
 
 fn next_place(next: u16) -> u16
@@ -48,22 +51,14 @@ fn next_place(next: u16) -> u16
 fn lead_left(lead: u16, evicted: u16) -> u16
     ensures { result ≡ lead - one (0 == evicted) }
 {
-    if evicted == 0 {
-        if lead > 0 {
-            return lead - 1;
-        }
-    }
-    lead
+    lead.saturating_sub(u16::from(evicted == 0))
 }
 
 // By how much the lead rises: a bin 0 in a block that has no seed push.
 fn lead_rise(bin: u16, quiet: bool) -> u16
     ensures { (result ≡ one (quiet && 0 == bin)) × (result ≤ 1) }
 {
-    if !quiet {
-        return 0;
-    }
-    if bin == 0 { 1 } else { 0 }
+    u16::from(quiet && bin == 0)
 }
 
 // The bin at the next place: the oldest, once the ring is full.
@@ -71,8 +66,7 @@ fn oldest_bin(chan: &[u16]) -> u16
     requires { (length chan.now ≡ channel_len) × Sound ring_len bins (chan_of chan.now) }
     ensures { (result ≡ oldest (chan_of chan.now)) × (result < bins) }
 {
-    let next = laws::wide(chan[NEXT]);
-    chan[next]
+    chan[usize::from(chan[NEXT])]
 }
 
 // The oldest of a full ring is counted no more.
@@ -82,7 +76,7 @@ fn evict(chan: &mut [u16])
     ensures { chan.new ≡ chan_u (roomed true (chan_of chan.old)) }
 {
     let oldest = oldest_bin(chan);
-    let at = COUNTS + laws::wide(oldest);
+    let at = COUNTS + usize::from(oldest);
     let count = chan[at];
     let lead = chan[LEAD];
     chan[at] = count - 1;
@@ -108,8 +102,8 @@ fn enter(chan: &mut [u16], bin: u16, rise: u16)
     ensures { chan.new ≡ chan_u (entered (chan_of chan.old) bin rise) }
 {
     let next = chan[NEXT];
-    let place = laws::wide(next);
-    let at = COUNTS + laws::wide(bin);
+    let place = usize::from(next);
+    let at = COUNTS + usize::from(bin);
     let count = chan[at];
     let lead = chan[LEAD];
     chan[place] = bin;

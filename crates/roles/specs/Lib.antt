@@ -1,1 +1,2 @@
 pub mod Rights
+pub mod Roles

@@ -4,41 +4,63 @@
 
 ghost use Rattle.std.specs.Prelude.{◌≡◌, ◌&&◌, leb};
 ghost use Rattle.roles.specs.Rights.{technician};
+ghost use Rattle.roles.specs.Roles.{role_number, Decodes};
 
-pub const KEEPER: u16 = 0;
+// A watch keeper, a team leader, a service technician: each may do what those before it may.
+#[derive(Clone, Copy, Debug, PartialEq, Eq, PartialOrd, Ord)]
+pub enum Role {
+    Keeper,
+    Leader,
+    Technician,
+}
 
-pub const LEADER: u16 = 1;
+// A number that is no role's.
+#[derive(Clone, Copy, Debug, PartialEq, Eq)]
+pub struct NoRole(pub u16);
 
-pub const TECHNICIAN: u16 = 2;
+impl TryFrom<u16> for Role {
+    type Error = NoRole;
+
+    ghost try_from_gives = { Decodes };
+
+    fn try_from(role: u16) -> Result<Role, NoRole> {
+        match role {
+            0 => Ok(Role::Keeper),
+            1 => Ok(Role::Leader),
+            2 => Ok(Role::Technician),
+            _ => Err(NoRole(role)),
+        }
+    }
+}
 
 // The rights, in the words of document 02, and the least role that has each.
-pub const READING: u16 = KEEPER;
+pub const READING: Role = Role::Keeper;
 
-pub const EXPLAINING: u16 = KEEPER;
+pub const EXPLAINING: Role = Role::Keeper;
 
-pub const WRITING_REGISTERS: u16 = LEADER;
+pub const WRITING_REGISTERS: Role = Role::Leader;
 
-pub const REMAKING: u16 = LEADER;
+pub const REMAKING: Role = Role::Leader;
 
-pub const UPDATING: u16 = TECHNICIAN;
+pub const UPDATING: Role = Role::Technician;
 
-pub const HOLDING: u16 = TECHNICIAN;
+pub const HOLDING: Role = Role::Technician;
 
-pub const MAKING: u16 = TECHNICIAN;
+pub const MAKING: Role = Role::Technician;
 
-pub const LOGGING: u16 = TECHNICIAN;
+pub const LOGGING: Role = Role::Technician;
 
-pub const DISPATCHING: u16 = TECHNICIAN;
+pub const DISPATCHING: Role = Role::Technician;
 
 // The answer of a call that is stopped.
 pub const STOPPED: u16 = 16;
 
-// Whether a role has a right that `least` and those after it have. There is none above the technician.
-pub fn may(least: u16, role: u16) -> bool
-    ensures { result ≡ (leb least role && leb role technician) }
+// Whether the role of this number has a right that `least` and those after it have.
+pub fn may(least: Role, role: u16) -> bool
+    ensures { result ≡ (leb (role_number least) role && leb role technician) }
 {
-    if role < least {
-        return false;
+    match Role::try_from(role) {
+        Ok(role) => least <= role,
+        Err(_) => false,
     }
-    role <= TECHNICIAN
 }

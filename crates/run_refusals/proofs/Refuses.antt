@@ -19,7 +19,7 @@ use Rattle.model.specs.GateCalls.{or_else, pair_refusal}
 use Rattle.model.specs.Stores.{bank_of}
 use Rattle.model.proofs.GoodBanks.{ready}
 use Rattle.model.proofs.GoodGates.{gate-ready, n-of}
-use Rattle.stores.proofs.Banks.{at-least-three}
+use Rattle.stores.proofs.Banks.{at_least_three}
 use Rattle.run_model.specs.Runs.{Run, hops_from, garbled_run, not_long, run_refusal, alone}
 use Rattle.run_model.proofs.Taken.{fit_of}
 use Rattle.run_refusals.specs.Checks.{not_long_by, garbled_db, run_refusal_by}
@@ -40,8 +40,8 @@ refusal-by bu bf gu gf r =
 
 -- ---- lengths, divided
 
-pub not-whole : (len hops n : ℕ) → (len % n ≡ 0 → ⊥) → false ≡ eqb len (hops * n)
-not-whole len hops n w = sym (ne_eqb len (hops * n) (λ e. w (ap (λ (x : ℕ). x % n) (e ∙ mul_comm hops n) ∙ mul-mod_right n hops)))
+pub not_whole : (len hops n : ℕ) → (len % n ≡ 0 → ⊥) → false ≡ eqb len (hops * n)
+not_whole len hops n w = sym (ne_eqb len (hops * n) (λ e. w (ap (λ (x : ℕ). x % n) (e ∙ mul_comm hops n) ∙ mul-mod_right n hops)))
 
 pub whole : (len hops n : ℕ) → 0 < n → len % n ≡ 0 → eqb (len / n) hops ≡ eqb len (hops * n)
 whole len hops n p z =
@@ -116,7 +116,7 @@ known bu bf gu gf e =
     let v = fit_of (alone bu bf gu gf) e in
     let g = gate-ready gu gf v.gate_passes in
     record {
-      three = at-least-three bu bf v.bank_passes;
+      three = at_least_three bu bf v.bank_passes;
       thirty = g.long;
       some = omega (arith, g.good.low, n-of gu gf);
       phase = (ready bu bf v.bank_passes).good.phase;

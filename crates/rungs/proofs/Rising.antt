@@ -6,6 +6,8 @@ use mathlib.Core.Logic.{◌⊎◌, inl, inr}
 use Prim.Native.Nat.{ℕ, zero, suc, ◌+◌, ◌-◌, ◌<◌, ◌≤◌}
 use native.Mathlib.Nat.{add-zero, add-suc}
 use native.Mathlib.Omega.{arith}
+use lib.Dec.{ltb}
+use borrow.Author.Tests.{ltb-true, ltb-false}
 use lib.ListN.{length, get_or}
 use lib.Ieee.{Float, nan, lt, le, mul, of_int, round}
 use Rattle.laws.proofs.Tests.{and_l, and_r, clash, by-test}
@@ -15,6 +17,8 @@ use Rattle.model.specs.Layout.{rung_count}
 use Rattle.model.specs.Ladder.{root_of, ten_to, rung_value}
 use Rattle.model.specs.Decibels.{rung_values, highest_below, highest_rung}
 use Rattle.model.proofs.Decibels.{at-most-below}
+use Rattle.std.specs.List.{AllWithin}
+use Rattle.std.specs.List.Sorted.{IsPartitionedBy}
 use Rattle.rungs.specs.Rising.{Rising}
 use Rattle.rungs.proofs.Grid.{times, grid, ladder, ladder-is}
 
@@ -72,6 +76,10 @@ goes_down m high x a b e h =
     let s : m + (high - m) ≡ high = omega arith in
     sym (none_above m (high - m) x (omega arith) h) ∙ ap (λ (k : ℕ). highest_below k x) s ∙ e
 
+all : (x : Float) → highest_below rung_count x ≡ highest_rung x
+unfolding highest_rung
+all x = refl
+
 -- one rung is left
 pub ends : (low high : ℕ) (x : Float) → high ≡ suc low → highest_below high x ≡ highest_rung x → (low ≡ 0) ⊎ (le (rung_value low) x ≡ true)
     → low ≡ highest_rung x
@@ -83,3 +91,30 @@ ends low high x s e (inl z) =
     lowest : (b : Bool) → ◌≡◌ {A = ℕ} (cond b 0 0) 0
     lowest true = refl
     lowest false = refl
+
+-- no rung that is at most x comes after one that is not
+pub parted : (t : List Float) (x : Float) → t ≡ rung_values → IsPartitionedBy (λ v. le v x) t
+unfolding rung_values
+parted t x e i j d a h g =
+    let n : length t ≡ rung_count = ap length e ∙ length-tab rung_count rung_value in
+    let s : i + (j - i) ≡ j = omega arith in
+    ap (λ (v : Float). le v x) (entry t i d e (omega arith))
+    ∙ at-most-below (λ r l. lt-le (rung_value r) (rung_value (suc r)) (rising r l)) i (j - i) x (omega arith)
+    (ap (λ (k : ℕ). le (rung_value k) x) s ∙ sym (ap (λ (v : Float). le v x) (entry t j d e (omega arith))) ∙ g)
+
+-- before m rungs are at most x, and from m on none is
+pub point-is : (t : List Float) (x : Float) (m : ℕ) → t ≡ rung_values → m ≤ rung_count → AllWithin (λ v. le v x ≡ true) t 0 m
+    → AllWithin (λ v. le v x ≡ false) t m rung_count → m - 1 ≡ highest_rung x
+unfolding highest_below
+point-is t x zero e h at above =
+    (let z : 0 - 1 ≡ 0 = omega arith in z)
+    ∙ goes_down 0 rung_count x (omega arith) (omega arith) (all x) (sym (ap (λ (v : Float). le v x) (entry t 0 nan e (omega arith))) ∙ above 0 nan (omega arith) (omega arith))
+point-is t x (suc m) e h at above =
+    (let z : suc m - 1 ≡ m = omega arith in z)
+    ∙ ends m (suc m) x refl
+    (by-test (ltb (suc m) rung_count)
+    (λ s.
+    let lt : suc m < rung_count = ltb-true (suc m) rung_count s in
+    goes_down (suc m) rung_count x h (omega arith) (all x) (sym (ap (λ (v : Float). le v x) (entry t (suc m) nan e lt)) ∙ above (suc m) nan (omega arith) lt))
+    (λ s. let w : suc m ≡ rung_count = omega (arith, ltb-false (suc m) rung_count s) in ap (λ (k : ℕ). highest_below k x) w ∙ all x))
+    (inr (sym (ap (λ (v : Float). le v x) (entry t m nan e h)) ∙ at m nan (omega arith) (omega arith)))

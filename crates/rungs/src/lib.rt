@@ -1,4 +1,4 @@
-// Document 02, R-13: the search for the highest rung that is at most a value, in a table that is lent.
+// Document 02, R-13: the highest rung that is at most a value, in a table that is lent.
 #![tactic(auto)]
 
 ghost use Rattle.std.specs.Prelude.{◌≡◌, ◌<◌};
@@ -9,20 +9,10 @@ use model::layout::RUNG_COUNT;
 
 pub mod table;
 
-// The highest rung whose value is at most x; the lowest if none is, so of a NaN too. From `high` on none is.
+// The highest rung whose value is at most x; the lowest if none is, so of a NaN too.
 pub fn highest_rung(t: &[f64; RUNG_COUNT], x: f64) -> usize
     requires { t.now ≡ rung_values }
     ensures { (result ≡ highest_rung x) × (result < rung_count) }
 {
-    let mut low = 0;
-    let mut high = RUNG_COUNT;
-    while high - low > 1 {
-        let mid = (low + high) / 2;
-        if t[mid] <= x {
-            low = mid;
-        } else {
-            high = mid;
-        }
-    }
-    low
+    t[..].partition_point(|value| *value <= x).saturating_sub(1)
 }

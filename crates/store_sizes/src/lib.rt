@@ -3,18 +3,20 @@
 
 ghost use Rattle.std.specs.Prelude.{◌≡◌, ◌≤◌};
 ghost use Rattle.laws.specs.Tests.{within};
-ghost use Rattle.model.specs.Bank.{blocks as blocksOf};
+ghost use Rattle.model.specs.Bank.{blocks as blocks_of};
 ghost use Rattle.model.specs.Stores.{base as base_of};
 ghost use Rattle.model.specs.Calls.{bank_len_for, bank_f_len_for};
+ghost use Rattle.refusals.specs.Numbers.{number_of, answer};
 ghost use Rattle.store_sizes.specs.Checks.{size_refusal};
 
-use model::layout::{BLOCK_CHANNELS, BLOCK_REST, CHANNEL_LEN};
+use model::layout::{BLOCK_CHANNELS, CHANNEL_LEN};
+use refusals::Refusal;
 
 pub fn blocks(n: usize) -> usize
     requires { n ≤ 512 }
-    ensures { (result ≡ blocksOf n) × (result ≤ blocksOf 512) }
+    ensures { (result ≡ blocks_of n) × (result ≤ blocks_of 512) }
 {
-    (n + BLOCK_REST) / BLOCK_CHANNELS
+    n.div_ceil(BLOCK_CHANNELS)
 }
 
 // Where the channels begin.
@@ -28,10 +30,7 @@ pub fn base(n: usize) -> usize
 pub fn in_band(n: usize) -> bool
     ensures { result ≡ within 1 512 n }
 {
-    if n < 1 {
-        return false;
-    }
-    n <= 512
+    1 <= n && n <= 512
 }
 
 // How many u16 a bank of n channels takes; 0 for an n that no bank has.
@@ -54,18 +53,15 @@ pub fn bank_f_len(n: usize) -> usize
     4 * n + blocks(n) + blocks(n)
 }
 
-// The refusals over sizes; `band` is the number for an n that no bank has.
-pub fn size_refusal(band: u16, u_len: usize, f_len: usize, n: usize) -> u16
-    ensures { result ≡ size_refusal band u_len f_len n }
+// The refusals over sizes; `band` is the one for an n that no bank has.
+pub fn size_refusal(band: Refusal, u_len: usize, f_len: usize, n: usize) -> Result<(), Refusal>
+    ensures { answer result ≡ size_refusal (number_of band) u_len f_len n }
 {
     if !in_band(n) {
-        return band;
+        return Err(band);
     }
-    if u_len != bank_len(n) {
-        return 2;
+    if u_len != bank_len(n) || f_len != bank_f_len(n) {
+        return Err(Refusal::StoreSize);
     }
-    if f_len != bank_f_len(n) {
-        return 2;
-    }
-    0
+    Ok(())
 }

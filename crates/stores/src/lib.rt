@@ -5,32 +5,24 @@ ghost use Rattle.std.specs.Prelude.{◌≡◌, true, ◌≤◌, length};
 ghost use Rattle.laws.specs.Tests.{all_below};
 ghost use Rattle.model.specs.Stores.{bank_len};
 ghost use Rattle.model.specs.Refusals.{bank_refusal, update_refusal, read_refusal};
+ghost use Rattle.refusals.specs.Numbers.{answer};
 ghost use Rattle.stores.specs.Checks.{sound_head, sound_seeds, is_sound, sound_channels, sound_store};
 
 use model::layout::{CHANNEL_LEN, DECIMATION_HOPS};
+use refusals::Refusal;
 
 fn head_sound(phase: u16, started: u16) -> bool
     ensures { result ≡ sound_head phase started }
 {
-    if phase < DECIMATION_HOPS {
-        return started <= 1;
-    }
-    false
+    phase < DECIMATION_HOPS && started <= 1
 }
 
 fn seeds_sound(bank: &[u16], n: usize) -> bool
     requires { (n ≤ 512) × (length bank.now ≡ bank_len n) }
     ensures { result ≡ sound_seeds bank.now n }
 {
-    let end = store_sizes::blocks(n);
-    let mut b: usize = 0;
-    while b < end {
-        if bank[3 + b] > 25 {
-            return false;
-        }
-        b += 1;
-    }
-    true
+    let end = 3 + store_sizes::blocks(n);
+    bank[3..end].iter().all(|&seeds| seeds <= 25)
 }
 
 // Most channels are found sound by sixteens, which takes less time than one by one.
@@ -39,70 +31,62 @@ fn channels_sound(bank: &[u16], n: usize) -> bool
     ensures { result ≡ sound_channels bank.now n }
 {
     let start = store_sizes::base(n);
-    let mut k = bank_sixteens::sound_sixteens(bank, start, n);
-    while k < n {
+    let first = bank_sixteens::sound_sixteens(bank, start, n);
+    for k in first..n {
         let a = start + CHANNEL_LEN * k;
-        let e = a + CHANNEL_LEN;
-        if !bank_sound::channel_sound(&bank[a..e]) {
+        if !bank_sound::channel_sound(&bank[a..a + CHANNEL_LEN]) {
             return false;
         }
-        k += 1;
     }
     true
 }
 
+#[tactic(auto, unfolding(crate::specs::Checks::sound_store))]
 fn store_sound(bank: &[u16], n: usize) -> bool
     requires { (n ≤ 512) × (length bank.now ≡ bank_len n) }
     ensures { result ≡ sound_store bank.now n }
 {
-    if !head_sound(bank[1], bank[2]) {
-        return false;
-    }
-    if !seeds_sound(bank, n) {
-        return false;
-    }
-    channels_sound(bank, n)
+    head_sound(bank[1], bank[2]) && seeds_sound(bank, n) && channels_sound(bank, n)
 }
 
-// Whether the lent stores are a bank: 0, or the number of the refusal.
-pub fn bank_refusal(bank: &[u16], bank_f: &[f64]) -> u16
-    ensures { result ≡ bank_refusal bank.now bank_f.now }
+// Whether the lent stores are a bank.
+#[tactic(auto, using(crate::proofs::Banks::refusal_is, crate::proofs::Banks::wrong_size, store_sizes::proofs::Sizes::fit))]
+pub fn bank_refusal(bank: &[u16], bank_f: &[f64]) -> Result<(), Refusal>
+    ensures { answer result ≡ bank_refusal bank.now bank_f.now }
 {
     if bank.len() < 3 {
-        return 2;
+        return Err(Refusal::StoreSize);
     }
-    let n = laws::wide(bank[0]);
-    let no = store_sizes::size_refusal(9, bank.len(), bank_f.len(), n);
-    if no != 0 {
-        return no;
+    let n = usize::from(bank[0]);
+    store_sizes::size_refusal(Refusal::Unsound, bank.len(), bank_f.len(), n)?;
+    if !store_sound(bank, n) {
+        return Err(Refusal::Unsound);
     }
-    if store_sound(bank, n) {
-        return 0;
-    }
-    9
+    Ok(())
 }
 
 // The same, then whether there is a channel k.
-pub fn read_refusal(bank: &[u16], bank_f: &[f64], k: usize) -> u16
-    ensures { result ≡ read_refusal bank.now bank_f.now k }
+#[tactic(auto, using(crate::proofs::Banks::at_least_three), unfolding(model::specs::Refusals::read_refusal))]
+pub fn read_refusal(bank: &[u16], bank_f: &[f64], k: usize) -> Result<(), Refusal>
+    ensures { answer result ≡ read_refusal bank.now bank_f.now k }
 {
-    let no = bank_refusal(bank, bank_f);
-    if no != 0 {
-        return no;
+    bank_refusal(bank, bank_f)?;
+    if k >= usize::from(bank[0]) {
+        return Err(Refusal::Channel);
     }
-    if k < laws::wide(bank[0]) {
-        return 0;
-    }
-    7
+    Ok(())
 }
 
-// Whether a bank takes a hop: 0, or the number of the refusal.
-pub fn update_refusal(bank: &[u16], bank_f: &[f64], power_db: &[f64], power: &[f32]) -> u16
-    ensures { result ≡ update_refusal bank.now bank_f.now power_db.now power.now }
+// Whether a bank takes a hop.
+#[tactic(auto, using(crate::proofs::Banks::at_least_three), unfolding(model::specs::Refusals::update_refusal))]
+pub fn update_refusal(
+    bank: &[u16],
+    bank_f: &[f64],
+    power_db: &[f64],
+    power: &[f32],
+) -> Result<(), Refusal>
+    ensures { answer result ≡ update_refusal bank.now bank_f.now power_db.now power.now }
 {
-    let no = bank_refusal(bank, bank_f);
-    if no != 0 {
-        return no;
-    }
-    hop_refusals::hop_refusal(laws::wide(bank[0]), bank[1], power_db, power)
+    bank_refusal(bank, bank_f)?;
+    hop_refusals::hop_refusal(usize::from(bank[0]), bank[1], power_db, power)
 }

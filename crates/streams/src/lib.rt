@@ -39,10 +39,7 @@ pub fn try_read(source: &Source, buf: &mut [u8]) -> Result<usize>
 pub fn read(source: &Source, buf: &mut [u8]) -> usize
     ensures { IsPrefixLen result buf.new }
 {
-    match try_read(source, buf) {
-        Ok(got) => got,
-        Err(_) => 0,
-    }
+    try_read(source, buf).unwrap_or(0)
 }
 
 // Reads until `buf` is full, the input ends or a read fails: how many bytes.
@@ -50,6 +47,7 @@ pub fn read_full(source: &Source, buf: &mut [u8]) -> usize
     ensures { IsPrefixLen result buf.new }
 {
     let mut done = 0;
+    // A while, and no for: how many bytes a turn takes only the system knows.
     while done < buf.len() {
         let got = read(source, &mut buf[done..]);
         if got == 0 {
@@ -70,11 +68,8 @@ fn words_of(text: &str) -> &str {
 
 // What was written of an error, on standard error.
 fn write_words(text: &[u8]) {
-    match std::str::from_utf8(text) {
-        Ok(text) => {
-            io::write_all(STDERR, words_of(text).as_bytes());
-        }
-        Err(_) => {}
+    if let Ok(text) = std::str::from_utf8(text) {
+        io::write_all(STDERR, words_of(text).as_bytes());
     }
 }
 
@@ -82,12 +77,12 @@ fn write_words(text: &[u8]) {
 pub fn fail(what: &[u8], why: Error) {
     let mut text = Cursor::new([0u8; 128]);
     let _ = write!(text, "{why}");
+    // No From leads from u64 to usize.
     let len = text.position() as usize;
     io::write_all(STDERR, what);
     io::write_all(STDERR, b": ");
-    match text.into_inner().get(..len) {
-        Some(words) => write_words(words),
-        None => {}
+    if let Some(words) = text.into_inner().get(..len) {
+        write_words(words);
     }
     io::write_all(STDERR, b"\n");
 }

@@ -9,7 +9,6 @@ ghost use Rattle.model.specs.Gate.{db_after};
 ghost use Rattle.watch_recording.specs.Recording.{hop_bytes};
 ghost use Rattle.watch_batch.specs.Batch.{start_of, Whole, hop_taken, smooth_after, started_after, with_front};
 
-use laws::least;
 use streams::Source;
 use watch_recording::hop_bytes;
 
@@ -25,6 +24,7 @@ pub const MOST_VALUES: usize = 7680;
 pub fn start_of(hop: u64, n: u16) -> usize
     ensures { (result ≡ start_of hop n) × (result < 16777216) }
 {
+    // No From leads from u64 to usize.
     hop_bytes(n) * (hop % 15) as usize
 }
 
@@ -54,10 +54,7 @@ fn read_behind(source: &Source, bytes: &mut [u8], have: usize, due: usize) -> us
 fn held_of(at: usize, have: usize, len: usize) -> usize
     ensures { result ≤ len }
 {
-    if at == 0 {
-        return 0;
-    }
-    least(have, len)
+    if at == 0 { 0 } else { have.min(len) }
 }
 
 // The bytes of a recording up to a whole hop or its end, and more if more is there: so a hop waits for none behind it.
@@ -65,7 +62,7 @@ pub fn read_on(source: &Source, hop: u64, n: u16, bytes: &mut [u8], have: usize)
     ensures { result ≤ length bytes.old }
 {
     let at = start_of(hop, n);
-    let due = least(at + hop_bytes(n), bytes.len());
+    let due = (at + hop_bytes(n)).min(bytes.len());
     let held = held_of(at, have, bytes.len());
     if held >= due {
         return held;
@@ -78,16 +75,13 @@ pub fn whole_hops(bytes: &[u8], size: usize) -> usize
     requires { 0 < size }
     ensures { Whole bytes.now size result × (size * result ≤ length bytes.now) }
 {
-    let mut at: usize = 0;
-    let mut i: usize = 0;
-    while size <= bytes.len() - at {
-        if bytes[at] > 1 {
+    let whole = bytes.len() / size;
+    for i in 0..whole {
+        if bytes[size * i] > 1 {
             return i;
         }
-        at += size;
-        i += 1;
     }
-    i
+    whole
 }
 
 // The flag and the values of a whole hop.
@@ -112,42 +106,38 @@ pub fn take_values(
     requires { (hop_bytes n * length hold.old ≤ length bytes.now) × (length db.old ≡ k * length hold.old) × (length power.old ≡ k * length hold.old) }
 {
     let size = hop_bytes(n);
-    let mut at: usize = 0;
-    let mut to: usize = 0;
-    let mut i: usize = 0;
-    while i < hold.len() {
-        let e = at + size;
-        let f = to + k;
-        hold[i] = take_hop(&bytes[at..e], n, &mut db[to..f], &mut power[to..f]);
-        at = e;
-        to = f;
-        i += 1;
+    for i in 0..hold.len() {
+        let (at, to) = (size * i, k * i);
+        hold[i] = take_hop(
+            &bytes[at..at + size],
+            n,
+            &mut db[to..to + k],
+            &mut power[to..to + k],
+        );
     }
 }
 
 fn db_at(list: &[f64], k: usize) -> f64
     ensures { result ≡ get_or list.now k f0 }
 {
-    if k >= list.len() {
-        return 0.0;
-    }
-    list[k]
+    list.get(k).copied().unwrap_or(0.0)
 }
 
 fn db_after(started: u16, s: f64, x: f64) -> f64
     ensures { result ≡ db_after started s x }
 {
     if started == 0 {
-        return x;
+        x
+    } else {
+        powers::smooth_step(s, x)
     }
-    powers::smooth_step(s, x)
 }
 
 fn follow_db(started: u16, smooth: &mut [f64], db: &[f64])
     ensures { smooth.new ≡ tab (length smooth.old) (λ k. db_after started (get_or smooth.old k f0) (get_or db.now k f0)) }
 {
-    for k in 0..smooth.len() {
-        smooth[k] = db_after(started, smooth[k], db_at(db, k));
+    for (k, s) in smooth.iter_mut().enumerate() {
+        *s = db_after(started, *s, db_at(db, k));
     }
 }
 
@@ -163,28 +153,22 @@ pub fn smooth_hop(hold: u8, started: u16, smooth: &mut [f64], db: &[f64])
 pub fn started_after(hold: u8, started: u16) -> u16
     ensures { result ≡ started_after hold started }
 {
-    if hold == 0 {
-        return 1;
-    }
-    started
+    if hold == 0 { 1 } else { started }
 }
 
 // Whether the gate has had an update, as its store says it.
 pub fn started_of(gate: &[u16]) -> u16
     ensures { result ≡ get_or gate.now 1 0 }
 {
-    if gate.len() < 2 {
-        return 0;
-    }
-    gate[1]
+    gate.get(1).copied().unwrap_or(0)
 }
 
 // The smoothed dB stand in front of the gate's floats: kept, ..
 pub fn keep_db(gate_f: &[f64], smooth: &mut [f64])
     ensures { smooth.new ≡ tab (length smooth.old) (λ k. get_or gate_f.now k f0) }
 {
-    for k in 0..smooth.len() {
-        smooth[k] = db_at(gate_f, k);
+    for (k, s) in smooth.iter_mut().enumerate() {
+        *s = db_at(gate_f, k);
     }
 }
 
@@ -192,7 +176,6 @@ pub fn keep_db(gate_f: &[f64], smooth: &mut [f64])
 pub fn put_db(gate_f: &mut [f64], smooth: &[f64])
     ensures { gate_f.new ≡ with_front smooth.now gate_f.old }
 {
-    for k in 0..least(smooth.len(), gate_f.len()) {
-        gate_f[k] = db_at(smooth, k);
-    }
+    let m = smooth.len().min(gate_f.len());
+    gate_f[..m].copy_from_slice(&smooth[..m]);
 }

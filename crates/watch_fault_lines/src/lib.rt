@@ -1,85 +1,90 @@
 // The lines on what is wrong with a recording or a log, from behind its name: which number stands where.
-#![tactic(auto)]
+#![tactic(auto, using(watch_lines::proofs::Texts::right_0), unfolding(watch_lines::specs::Lines::put_texts))]
 
 ghost use Rattle.std.specs.Prelude.{◌≡◌};
+ghost use Rattle.refusals.specs.Numbers.{number_of};
+ghost use Rattle.watch_text.specs.Text.{written};
 ghost use Rattle.watch_lines.specs.Lines.{put_texts};
 ghost use Rattle.watch_fault_lines.specs.FaultLines.{place_text, bad_band_line, room_text, too_large_line, refusal_text, refused_line, bad_flag_line, cut_place};
 
-use watch_figures::{end_byte, wide};
+use refusals::Refusal;
+use watch_figures::end_byte;
 use watch_names::put_refusal;
 use watch_recording::Place;
-use watch_text::{LINE, put_number, put_text};
+use watch_text::{Line, put_number, put_text};
 
 // Where it stands, with which each line starts.
-pub fn put_place(line: &mut [u8; LINE], hop: u64, byte: u64) -> usize
-    ensures { (line.new, result) ≡ put_texts (line.old, 0) (place_text hop byte) }
+pub fn put_place(line: &mut Line, hop: u64, byte: u64)
+    ensures { written line.new ≡ put_texts (written line.old) (place_text hop byte) }
 {
-    let at = put_text(line, 0, b": hop ");
-    let at = put_number(line, at, hop, 0);
-    let at = put_text(line, at, b", byte ");
-    let at = put_number(line, at, byte, 0);
-    put_text(line, at, b": ")
+    put_text(line, b": hop ");
+    put_number(line, hop, 0);
+    put_text(line, b", byte ");
+    put_number(line, byte, 0);
+    put_text(line, b": ");
 }
 
 // A number of channels that no bank takes.
-pub fn put_bad_band(line: &mut [u8; LINE], n: u16) -> usize
-    ensures { (line.new, result) ≡ put_texts (line.old, 0) (bad_band_line n) }
+pub fn put_bad_band(line: &mut Line, n: u16)
+    ensures { written line.new ≡ put_texts (written line.old) (bad_band_line n) }
 {
-    let at = put_place(line, 0, 0);
-    let at = put_number(line, at, wide(n), 0);
-    put_text(line, at, b" channels; there can be 1 to 512\n")
+    put_place(line, 0, 0);
+    put_number(line, u64::from(n), 0);
+    put_text(line, b" channels; there can be 1 to 512\n");
 }
 
 // A gate for which there is no room.
-pub fn put_too_large(line: &mut [u8; LINE], n: u16, needed: usize, most: usize) -> usize
-    ensures { (line.new, result) ≡ put_texts (line.old, 0) (too_large_line n needed most) }
+pub fn put_too_large(line: &mut Line, n: u16, needed: usize, most: usize)
+    ensures { written line.new ≡ put_texts (written line.old) (too_large_line n needed most) }
 {
-    let at = put_place(line, 0, 2);
-    put_room(line, at, n, needed, most)
+    put_place(line, 0, 2);
+    put_room(line, n, needed, most);
 }
 
-fn put_room(line: &mut [u8; LINE], at: usize, n: u16, needed: usize, most: usize) -> usize
-    ensures { (line.new, result) ≡ put_texts (line.old, at) (room_text n needed most) }
+fn put_room(line: &mut Line, n: u16, needed: usize, most: usize)
+    ensures { written line.new ≡ put_texts (written line.old) (room_text n needed most) }
 {
-    let at = put_number(line, at, wide(n), 0);
-    let at = put_text(line, at, b" channels with these lengths need ");
-    let at = put_number(line, at, needed as u64, 0);
-    let at = put_text(line, at, b" places in the gate's store; watch has ");
-    let at = put_number(line, at, most as u64, 0);
-    put_text(line, at, b". Take fewer or shorter lengths\n")
+    put_number(line, u64::from(n), 0);
+    put_text(line, b" channels with these lengths need ");
+    // No From leads from usize to u64.
+    put_number(line, needed as u64, 0);
+    put_text(line, b" places in the gate's store; watch has ");
+    // No From leads from usize to u64.
+    put_number(line, most as u64, 0);
+    put_text(line, b". Take fewer or shorter lengths\n");
 }
 
 // What a call of the library refused.
-pub fn put_refused(line: &mut [u8; LINE], hop: u64, byte: u64, no: u16) -> usize
-    ensures { (line.new, result) ≡ put_texts (line.old, 0) (refused_line hop byte no) }
+pub fn put_refused(line: &mut Line, hop: u64, byte: u64, refusal: Refusal)
+    ensures { written line.new ≡ put_texts (written line.old) (refused_line hop byte (number_of refusal)) }
 {
-    let at = put_place(line, hop, byte);
-    put_why(line, at, no)
+    put_place(line, hop, byte);
+    put_why(line, refusal);
 }
 
-fn put_why(line: &mut [u8; LINE], at: usize, no: u16) -> usize
-    ensures { (line.new, result) ≡ put_texts (line.old, at) (refusal_text no) }
+fn put_why(line: &mut Line, refusal: Refusal)
+    ensures { written line.new ≡ put_texts (written line.old) (refusal_text (number_of refusal)) }
 {
-    let at = put_text(line, at, b"refused (");
-    let at = put_number(line, at, wide(no), 0);
-    let at = put_text(line, at, b"), ");
-    let at = put_refusal(line, at, no);
-    put_text(line, at, b"\n")
+    put_text(line, b"refused (");
+    put_number(line, u64::from(refusal.number()), 0);
+    put_text(line, b"), ");
+    put_refusal(line, refusal);
+    put_text(line, b"\n");
 }
 
 // A flag byte with a bit that means nothing.
-pub fn put_bad_flag(line: &mut [u8; LINE], place: Place, flag: u8) -> usize
-    ensures { (line.new, result) ≡ put_texts (line.old, 0) (bad_flag_line place flag) }
+pub fn put_bad_flag(line: &mut Line, place: Place, flag: u8)
+    ensures { written line.new ≡ put_texts (written line.old) (bad_flag_line place flag) }
 {
-    let at = put_place(line, place.hop, place.byte);
-    let at = put_text(line, at, b"the flag byte is ");
-    let at = put_number(line, at, flag as u64, 0);
-    put_text(line, at, b"; only 0 and 1 mean something\n")
+    put_place(line, place.hop, place.byte);
+    put_text(line, b"the flag byte is ");
+    put_number(line, u64::from(flag), 0);
+    put_text(line, b"; only 0 and 1 mean something\n");
 }
 
 // Where a recording ends within a hop, `got` bytes into it.
-pub fn put_cut_place(line: &mut [u8; LINE], place: Place, got: usize) -> usize
-    ensures { (line.new, result) ≡ put_texts (line.old, 0) (cut_place place got) }
+pub fn put_cut_place(line: &mut Line, place: Place, got: usize)
+    ensures { written line.new ≡ put_texts (written line.old) (cut_place place got) }
 {
-    put_place(line, place.hop, end_byte(place.byte, got))
+    put_place(line, place.hop, end_byte(place.byte, got));
 }

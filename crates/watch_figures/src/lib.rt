@@ -1,40 +1,26 @@
 // The figures of a report that are neither a reading nor a count.
 #![tactic(auto)]
 
-ghost use Rattle.std.specs.Prelude.{◌≡◌, ◌<◌, slice_index_or};
+ghost use Rattle.std.specs.Prelude.{◌≡◌, slice_index_or};
 ghost use Rattle.std.specs.Float.{nan};
-ghost use Rattle.laws.specs.Lists.{one};
-ghost use Rattle.model.specs.Readings.{value_or, floors_or};
+ghost use Rattle.refusals.specs.Numbers.{numbered};
+ghost use Rattle.refusals.specs.Readings.{value_or};
 ghost use Rattle.watch_figures.specs.Figures.{no_floors, ends_minute, whole_seconds, end_byte};
 ghost use Rattle.watch_figures.specs.Figures.{thousandths as figures_thousandths};
 
-use model::{Floors, FloorsReading, Reading};
-
-pub fn wide(n: u16) -> u64
-    ensures { (result ≡ n) × (result < 65536) }
-{
-    n as u64
-}
-
-pub fn bit(is_on: bool) -> u64
-    ensures { result ≡ one is_on }
-{
-    if is_on { 1 } else { 0 }
-}
+use model::Floors;
+use refusals::Refusal;
 
 pub fn thousandths(eighths: u16) -> u64
     ensures { result ≡ figures_thousandths eighths }
 {
-    125 * wide(eighths)
+    125 * u64::from(eighths)
 }
 
 pub fn ends_minute(hop: u64) -> bool
     ensures { result ≡ ends_minute hop }
 {
-    if hop == 0 {
-        return false;
-    }
-    hop % 22500 == 0
+    hop != 0 && hop % 22500 == 0
 }
 
 pub fn whole_seconds(hop: u64) -> u64
@@ -47,23 +33,21 @@ pub fn whole_seconds(hop: u64) -> u64
 pub fn end_byte(byte: u64, got: usize) -> u64
     ensures { result ≡ end_byte byte got }
 {
-    std::num::wrapping_add_u64(byte, got as u64)
+    // No From leads from usize to u64.
+    byte.wrapping_add(got as u64)
 }
 
 pub fn no_number() -> f64
     ensures { result ≡ nan }
 {
-    0.0 / 0.0
+    f64::NAN
 }
 
 // A refused reading shows as no number.
-pub fn value(r: Reading) -> f64
-    ensures { result ≡ value_or nan r }
+pub fn value(r: Result<f64, Refusal>) -> f64
+    ensures { result ≡ value_or nan (numbered r) }
 {
-    match r {
-        Reading::Value(x) => x,
-        Reading::Refused(_) => no_number(),
-    }
+    r.unwrap_or(no_number())
 }
 
 fn no_floors() -> Floors
@@ -77,20 +61,14 @@ fn no_floors() -> Floors
     }
 }
 
-pub fn floors_of(r: FloorsReading) -> Floors
-    ensures { result ≡ floors_or no_floors r }
+pub fn floors_of(r: Result<Floors, Refusal>) -> Floors
+    ensures { result ≡ value_or no_floors (numbered r) }
 {
-    match r {
-        FloorsReading::Value(f) => f,
-        FloorsReading::Refused(_) => no_floors(),
-    }
+    r.unwrap_or(no_floors())
 }
 
 pub fn float_at(floats: &[f64], k: usize) -> f64
     ensures { result ≡ slice_index_or floats.now k nan }
 {
-    if k >= floats.len() {
-        return no_number();
-    }
-    floats[k]
+    floats.get(k).copied().unwrap_or(no_number())
 }

@@ -2,129 +2,87 @@
 #![tactic(auto)]
 
 ghost use Rattle.std.specs.Prelude.{◌≡◌};
-ghost use Rattle.watch_follow.specs.Followed.{is_taken, taken_bytes, stopped, after_hop, followed};
+ghost use Rattle.watch_follow.specs.Followed.{stopped, after_hop, followed};
 
 use origins::Explanation;
-use streams::Source;
-use watch_hear::Heard;
-use watch_notices::faults;
+use watch_hear::Stop;
+use watch_notices::{Watched, faults};
 use watch_recording::Place;
-use watch_report::lines;
-use watch_words::Settings;
+use watch_report::lines::{Channels, print_hop};
+use watch_stores::Stores;
 
-// What became of a hop: told, and if it was taken counted.
+// The dB of a hop and its marks.
+#[derive(Clone, Copy)]
+pub struct Marked<'a> {
+    pub db: &'a [f64],
+    pub rise: &'a [u8],
+    pub drop: &'a [u8],
+}
+
+// What became of a hop: told, and if it was taken counted. The four lists come as slices and not as
+// `watch_report::tail::Kept`: the clause would read kept.new.alive.now, and a call that reads one and writes another is not covered behind it.
+#[tactic(auto, unfolding(crate::specs::Followed::followed))]
 pub fn follow(
-    source: &Source,
-    name: &[u8],
-    s: Settings,
+    w: Watched,
     place: Place,
-    heard: Heard,
+    heard: Result<usize, Stop>,
     before: Explanation,
-    bank: &[u16],
-    bank_f: &[f64],
-    worst: &[u16],
-    worst_f: &[f64],
-    gate: &[u16],
-    gate_f: &[f64],
-    db: &[f64],
-    rise: &[u8],
-    drop: &[u8],
+    stores: &Stores,
+    hop: Marked,
     alive: &mut [u8],
     alive_hops: &mut [u64],
     events: &mut [u8],
     rises: &mut [u64],
 ) -> Place
-    ensures { (result, alive.new, alive_hops.new, events.new, rises.new) ≡ followed heard place alive.old alive_hops.old events.old rises.old rise.now drop.now }
-{
-    if !is_taken(heard) {
-        return print_stop(source, name, place, heard);
-    }
-    take_hop(
-        s,
-        taken_bytes(heard),
-        place,
-        before,
-        bank,
-        bank_f,
-        worst,
-        worst_f,
-        gate,
-        gate_f,
-        db,
-        rise,
-        drop,
-        alive,
-        alive_hops,
-        events,
-        rises,
-    )
-}
-
-fn is_taken(heard: Heard) -> bool
-    ensures { result ≡ is_taken heard }
+    ensures { (result, alive.new, alive_hops.new, events.new, rises.new) ≡ followed heard place alive.old alive_hops.old events.old rises.old hop.entry.rise.now hop.entry.drop.now }
 {
     match heard {
-        Heard::End => false,
-        Heard::Cut(_) => false,
-        Heard::BadFlag(_) => false,
-        Heard::Refused(_) => false,
-        Heard::Taken(_) => true,
-    }
-}
-
-fn taken_bytes(heard: Heard) -> usize
-    ensures { result ≡ taken_bytes heard }
-{
-    match heard {
-        Heard::End => 0,
-        Heard::Cut(_) => 0,
-        Heard::BadFlag(_) => 0,
-        Heard::Refused(_) => 0,
-        Heard::Taken(size) => size,
+        Ok(size) => take_hop(
+            w, size, place, before, stores, hop, alive, alive_hops, events, rises,
+        ),
+        Err(stop) => print_stop(w, place, stop),
     }
 }
 
 // Why no more hops are taken.
-pub fn print_stop(source: &Source, name: &[u8], place: Place, heard: Heard) -> Place
+pub fn print_stop(w: Watched, place: Place, stop: Stop) -> Place
     ensures { result ≡ stopped place }
 {
-    match heard {
-        Heard::Cut(got) => faults::print_cut(source, name, place, got),
-        Heard::BadFlag(flag) => faults::print_bad_flag(name, place, flag),
-        Heard::Refused(no) => faults::print_refused(name, place, no),
-        _ => {}
+    match stop {
+        Stop::End => {}
+        Stop::Cut(got) => faults::print_cut(w, place, got),
+        Stop::BadFlag(flag) => faults::print_bad_flag(w, place, flag),
+        Stop::Refused(refusal) => faults::print_refused(w, place, refusal),
     }
     watch_recording::ended(place)
 }
 
 // What the marks of a hop change, told and then taken over.
 pub fn take_hop(
-    s: Settings,
+    w: Watched,
     size: usize,
     place: Place,
     before: Explanation,
-    bank: &[u16],
-    bank_f: &[f64],
-    worst: &[u16],
-    worst_f: &[f64],
-    gate: &[u16],
-    gate_f: &[f64],
-    db: &[f64],
-    rise: &[u8],
-    drop: &[u8],
+    stores: &Stores,
+    hop: Marked,
     alive: &mut [u8],
     alive_hops: &mut [u64],
     events: &mut [u8],
     rises: &mut [u64],
 ) -> Place
-    ensures { (result, alive.new, alive_hops.new, events.new, rises.new) ≡ after_hop place size alive.old alive_hops.old events.old rises.old rise.now drop.now }
+    ensures { (result, alive.new, alive_hops.new, events.new, rises.new) ≡ after_hop place size alive.old alive_hops.old events.old rises.old hop.entry.rise.now hop.entry.drop.now }
 {
+    let Marked { db, rise, drop } = hop;
     watch_states::count_rises(rises, alive, rise, drop);
     watch_states::add_events(events, alive, rise, drop);
-    lines::print_hop(
-        place.hop, s, before, db, bank, bank_f, worst, worst_f, gate, gate_f, alive, events, rise,
+    let channels = Channels {
+        db,
+        alive: &*alive,
+        events: &*events,
+        rise,
         drop,
-    );
+    };
+    print_hop(place.hop, w.s, before, stores, channels);
     watch_states::close_hop(
         watch_recording::is_slow(place.hop),
         alive,

@@ -1,27 +1,28 @@
-// What the bank and the gate answer to a hop.
+// What the bank and the gate answer to a hop. They lend slices and no struct of them: behind one the clauses would read stores.new.bank.now for
+// bank.new, and a call that reads one store and writes another is not covered there.
 #![tactic(auto)]
 
 ghost use Rattle.std.specs.Prelude.{◌≡◌};
+ghost use Rattle.refusals.specs.Numbers.{answer};
 ghost use Rattle.model.specs.Bank.{hop};
 ghost use Rattle.model.specs.WorstCalls.{update_if};
 ghost use Rattle.watch_hear.specs.Judged.{gate_judged, judged};
 ghost use Rattle.watch_hear.specs.Heard.{answer_of, heard_of};
 
+use refusals::Refusal;
 use watch_recording::Step;
 
-// What became of a hop.
-#[derive(Clone, Copy)]
-pub enum Heard {
+// Why a hop was not taken.
+#[derive(Clone, Copy, Debug, PartialEq, Eq)]
+pub enum Stop {
     // The recording ends here.
     End,
     // It ends so many bytes into the hop.
     Cut(usize),
     // A flag byte with a bit that means nothing.
     BadFlag(u8),
-    // The reader of a log, the bank or the gate refused, by this number.
-    Refused(u16),
-    // Bank and gate took the hop, of so many bytes.
-    Taken(usize),
+    // The reader of a log, the bank or the gate refused.
+    Refused(Refusal),
 }
 
 // With static heard the gate holds.
@@ -35,8 +36,8 @@ fn judge_gate(
     power: &[f32],
     rise: &mut [u8],
     drop: &mut [u8],
-) -> u16
-    ensures { (result, gate.new, gate_f.new, rise.new, drop.new) ≡ gate_judged is_static bank.now bank_f.now gate.old gate_f.old (record { db = db.now; power = power.now }) rise.old drop.old }
+) -> Result<(), Refusal>
+    ensures { (answer result, gate.new, gate_f.new, rise.new, drop.new) ≡ gate_judged is_static bank.now bank_f.now gate.old gate_f.old (record { db = db.now; power = power.now }) rise.old drop.old }
 {
     if is_static {
         return gate::gate_hold(bank, bank_f, gate, gate_f, rise, drop);
@@ -54,8 +55,8 @@ fn judge_bank(
     worst_f: &mut [f64],
     db: &[f64],
     power: &[f32],
-) -> u16
-    ensures { (result, bank.new, bank_f.new, worst.new, worst_f.new) ≡ update_if carries bank.old bank_f.old worst.old worst_f.old (hop is_static db.now power.now) }
+) -> Result<(), Refusal>
+    ensures { (answer result, bank.new, bank_f.new, worst.new, worst_f.new) ≡ update_if carries bank.old bank_f.old worst.old worst_f.old (hop is_static db.now power.now) }
 {
     if carries {
         return worst::bank_update_worst(bank, bank_f, worst, worst_f, db, power, is_static);
@@ -63,7 +64,7 @@ fn judge_bank(
     bank::bank_update_holding_reference(bank, bank_f, db, power, is_static)
 }
 
-// The bank and the gate take a hop: 0, or the number of the refusal.
+// The bank and the gate take a hop.
 fn judge(
     carries: bool,
     is_static: bool,
@@ -77,26 +78,26 @@ fn judge(
     power: &[f32],
     rise: &mut [u8],
     drop: &mut [u8],
-) -> u16
-    ensures { (result, bank.new, bank_f.new, worst.new, worst_f.new, gate.new, gate_f.new, rise.new, drop.new) ≡ judged carries is_static bank.old bank_f.old worst.old worst_f.old gate.old gate_f.old (record { db = db.now; power = power.now }) rise.old drop.old }
+) -> Result<(), Refusal>
+    ensures { (answer result, bank.new, bank_f.new, worst.new, worst_f.new, gate.new, gate_f.new, rise.new, drop.new) ≡ judged carries is_static bank.old bank_f.old worst.old worst_f.old gate.old gate_f.old (record { db = db.now; power = power.now }) rise.old drop.old }
 {
-    let no = judge_bank(carries, is_static, bank, bank_f, worst, worst_f, db, power);
-    if no != 0 {
-        return no;
-    }
+    judge_bank(carries, is_static, bank, bank_f, worst, worst_f, db, power)?;
     judge_gate(is_static, bank, bank_f, gate, gate_f, db, power, rise, drop)
 }
 
-fn answer(no: u16, size: usize) -> Heard
-    ensures { result ≡ answer_of size no }
+// Bank and gate took a hop of so many bytes, or refused it.
+#[tactic(auto, using(crate::proofs::Steps::names))]
+fn taken(judged: Result<(), Refusal>, size: usize) -> Result<usize, Stop>
+    ensures { result ≡ answer_of size (answer judged) }
 {
-    if no != 0 {
-        return Heard::Refused(no);
+    match judged {
+        Ok(()) => Ok(size),
+        Err(refusal) => Err(Stop::Refused(refusal)),
     }
-    Heard::Taken(size)
 }
 
-// What was read where a hop is due: a whole hop goes to the bank and the gate.
+// What was read where a hop is due: a whole hop goes to the bank and the gate. How many bytes it has, or why it was not taken.
+#[tactic(auto, unfolding(crate::specs::Heard::heard_of))]
 pub fn hear(
     step: Step,
     carries: bool,
@@ -110,15 +111,15 @@ pub fn hear(
     power: &[f32],
     rise: &mut [u8],
     drop: &mut [u8],
-) -> Heard
+) -> Result<usize, Stop>
     ensures { (result, bank.new, bank_f.new, worst.new, worst_f.new, gate.new, gate_f.new, rise.new, drop.new) ≡ heard_of step carries bank.old bank_f.old worst.old worst_f.old gate.old gate_f.old (record { db = db.now; power = power.now }) rise.old drop.old }
 {
     match step {
-        Step::End => Heard::End,
-        Step::Cut(got) => Heard::Cut(got),
-        Step::BadFlag(flag) => Heard::BadFlag(flag),
-        Step::Refused(no) => Heard::Refused(no),
-        Step::Hop(is_static, size) => answer(
+        Step::End => Err(Stop::End),
+        Step::Cut(got) => Err(Stop::Cut(got)),
+        Step::BadFlag(flag) => Err(Stop::BadFlag(flag)),
+        Step::Refused(refusal) => Err(Stop::Refused(refusal)),
+        Step::Hop(is_static, size) => taken(
             judge(
                 carries, is_static, bank, bank_f, worst, worst_f, gate, gate_f, db, power, rise,
                 drop,

@@ -3,7 +3,7 @@
 
 use std::env::Env;
 use streams::{STDERR, STDOUT};
-use watch_words::Settings;
+use watch_words::Fault;
 
 fn say(text: &[u8]) {
     io::write_all(STDOUT, text);
@@ -89,31 +89,30 @@ fn cry(text: &[u8]) {
     io::write_all(STDERR, text);
 }
 
-fn print_reason(fault: u8) {
+fn print_reason(fault: Fault) {
     match fault {
-        watch_words::UNKNOWN => cry(b" is no option; watch --help lists them\n"),
-        watch_words::BAD_LEVEL => cry(
-            b" is no level: whole eighths of a dB from -100 to 100, as 6.5\n",
-        ),
-        watch_words::BAD_LENGTHS => cry(
+        Fault::Unknown => cry(b" is no option; watch --help lists them\n"),
+        Fault::BadLevel => cry(b" is no level: whole eighths of a dB from -100 to 100, as 6.5\n"),
+        Fault::BadLengths => cry(
             b" is no list of one to eight lengths of 1 to 375 hops, as 15,75,375\n",
         ),
-        watch_words::BAD_CHANNEL => cry(b" is no channel: a number from 0 to 511\n"),
-        watch_words::BAD_SPAN => cry(b" is no span: a number of slow hops from 1 to 600\n"),
-        watch_words::NO_VALUE => cry(b" is the last word and needs a value\n"),
-        watch_words::SECOND_FILE => cry(b" is a second file; watch takes one\n"),
-        _ => cry(b" is too long\n"),
+        Fault::BadChannel => cry(b" is no channel: a number from 0 to 511\n"),
+        Fault::BadSpan => cry(b" is no span: a number of slow hops from 1 to 600\n"),
+        Fault::NoValue => cry(b" is the last word and needs a value\n"),
+        Fault::SecondFile => cry(b" is a second file; watch takes one\n"),
+        Fault::TooLong => cry(b" is too long\n"),
     }
 }
 
-// Names the word and its number.
-pub fn print_fault(env: &impl Env, s: Settings) {
+// Names word i, its number and what is wrong with it.
+pub fn print_fault(env: &impl Env, fault: Fault, i: usize) {
     let mut word = io::buffer();
-    let len = env.arg(s.word, &mut word).unwrap_or(0);
+    let len = env.arg(i, &mut word).unwrap_or(0);
     cry(b"watch: word ");
-    io::print_decimal(STDERR, s.word as u64);
+    // No From leads from usize to u64.
+    io::print_decimal(STDERR, i as u64);
     cry(b", ");
-    io::write_all(STDERR, &word[..len]);
+    cry(&word[..len]);
     cry(b",");
-    print_reason(s.fault);
+    print_reason(fault);
 }

@@ -1,15 +1,14 @@
 // Window lengths as a word of the command line.
 #![tactic(auto)]
 
-ghost use Rattle.std.specs.Prelude.{◌≡◌, ◌<◌};
-ghost use Rattle.watch_lengths.specs.Lengths.{begun as lengths_begun, wrong as lengths_wrong, ended, digit, step, lengths_of};
+ghost use Rattle.std.specs.Prelude.{◌≡◌};
+ghost use Rattle.watch_lengths.specs.Lengths.{begun as lengths_begun, ended, digit, step, lengths_of};
 
-// A list of lengths so far: how many are whole, and the one that is being read.
-#[derive(Clone, Copy)]
+// A list of lengths so far: how many are whole, and the one that is being read. A word that is no such list has none.
+#[derive(Clone, Copy, Debug, PartialEq, Eq)]
 pub struct Listed {
     pub count: usize,
     pub number: u16,
-    pub is_wrong: bool,
 }
 
 fn begun() -> Listed
@@ -18,89 +17,58 @@ fn begun() -> Listed
     Listed {
         count: 0,
         number: 0,
-        is_wrong: false,
-    }
-}
-
-fn wrong() -> Listed
-    ensures { result ≡ lengths_wrong }
-{
-    Listed {
-        count: 0,
-        number: 0,
-        is_wrong: true,
     }
 }
 
 // A number of the list ends: it is 1 to 375, and one of at most eight.
-fn list_end(s: Listed, lengths: &mut [u16; 8]) -> Listed
-    ensures { (lengths.new, result) ≡ ended (lengths.old, s) }
+#[tactic(auto, unfolding(crate::specs::Lengths::ended))]
+fn list_end(listed: Option<Listed>, lengths: &mut [u16; 8]) -> Option<Listed>
+    ensures { (lengths.new, result) ≡ ended (lengths.old, listed) }
 {
+    let s = listed?;
     let count = s.count;
-    if s.is_wrong {
-        return wrong();
-    }
-    if s.number < 1 {
-        return wrong();
-    }
-    if s.number > 375 {
-        return wrong();
-    }
-    if count >= 8 {
-        return wrong();
+    if s.number < 1 || s.number > 375 || count >= 8 {
+        return None;
     }
     lengths[count] = s.number;
-    Listed {
+    Some(Listed {
         count: count + 1,
         number: 0,
-        is_wrong: false,
-    }
+    })
 }
 
-fn narrow(b: u8) -> u16
-    ensures { (result ≡ b) × (result < 256) }
+#[tactic(auto, unfolding(crate::specs::Lengths::digit))]
+fn list_digit(listed: Option<Listed>, b: u8) -> Option<Listed>
+    ensures { result ≡ digit listed b }
 {
-    b as u16
-}
-
-fn list_digit(s: Listed, b: u8) -> Listed
-    ensures { result ≡ digit s b }
-{
-    if s.is_wrong {
-        return wrong();
+    let s = listed?;
+    if b < b'0' || b > b'9' || s.number > 375 {
+        return None;
     }
-    if b < b'0' {
-        return wrong();
-    }
-    if b > b'9' {
-        return wrong();
-    }
-    if s.number > 375 {
-        return wrong();
-    }
-    Listed {
+    Some(Listed {
         count: s.count,
-        number: s.number * 10 + narrow(b - b'0'),
-        is_wrong: false,
-    }
+        number: s.number * 10 + u16::from(b - b'0'),
+    })
 }
 
-fn list_step(s: Listed, b: u8, lengths: &mut [u16; 8]) -> Listed
-    ensures { (lengths.new, result) ≡ step (lengths.old, s) b }
+#[tactic(auto, unfolding(crate::specs::Lengths::step))]
+fn list_step(listed: Option<Listed>, b: u8, lengths: &mut [u16; 8]) -> Option<Listed>
+    ensures { (lengths.new, result) ≡ step (lengths.old, listed) b }
 {
     if b == b',' {
-        return list_end(s, lengths);
+        return list_end(listed, lengths);
     }
-    list_digit(s, b)
+    list_digit(listed, b)
 }
 
-// Lengths with commas between them, put into `lengths`: how many, or 0 where the word is no such list.
-pub fn lengths_of(word: &[u8], lengths: &mut [u16; 8]) -> usize
+// Lengths with commas between them, put into `lengths`: how many, if the word is such a list.
+pub fn lengths_of(word: &[u8], lengths: &mut [u16; 8]) -> Option<usize>
     ensures { (lengths.new, result) ≡ lengths_of word.now lengths.old }
 {
-    let mut s = begun();
-    for i in 0..word.len() {
-        s = list_step(s, word[i], lengths);
+    let mut listed = Some(begun());
+    for b in word {
+        listed = list_step(listed, *b, lengths);
     }
-    list_end(s, lengths).count
+    let end = list_end(listed, lengths)?;
+    Some(end.count)
 }

@@ -16,6 +16,6 @@ negated zero h = record { sfits = omega arith }
 negated (suc n) h = record { sfits = rw (lt-ltb 0 (suc n) (omega arith)) (omega arith) }
 
 -- a list without its first entry, as `&w[1..]` lends it
-pub all-but-first : (w : List ℕ) → take (length w - 1) (drop 1 w) ≡ drop 1 w
-all-but-first [] = refl
-all-but-first (b ∷ w) = take_all (length (b ∷ w) - 1) w (omega arith)
+pub all_but_first : (w : List ℕ) → take (length w - 1) (drop 1 w) ≡ drop 1 w
+all_but_first [] = refl
+all_but_first (b ∷ w) = take_all (length (b ∷ w) - 1) w (omega arith)

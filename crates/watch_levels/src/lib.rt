@@ -1,33 +1,20 @@
 // Levels as words of the command line, and as the gate takes them.
 #![tactic(auto)]
 
-ghost use Rattle.std.specs.Prelude.{◌≡◌, false, ◌&&◌, ◌≤◌, ◌<◌, eqb, ltb};
-ghost use Rattle.watch_levels.specs.Levels.{nothing as levels_nothing, wrong as levels_wrong, pointed, whole_digit, part_digit};
-ghost use Rattle.watch_levels.specs.Levels.{digit as levels_digit, step, decimal_of, level, no_level, whole_eighths, level_of, signed_of};
+ghost use Rattle.std.specs.Prelude.{◌≡◌, ◌≤◌, ◌<◌, false};
+ghost use Rattle.watch_levels.specs.Levels.{nothing as levels_nothing, pointed, part_digit};
+ghost use Rattle.watch_levels.specs.Levels.{digit as levels_digit, step, decimal_of, level, whole_eighths, level_of, signed_of, early_of};
 
 // An absent early level, as the gate takes it.
 pub const ABSENT: i32 = 65535;
 
 // What a word has said so far, read as a number in thousandths.
-#[derive(Clone, Copy)]
+#[derive(Clone, Copy, Debug, PartialEq, Eq)]
 pub struct Decimal {
     // What the next digit is worth: 1,000 before the point, then 100, 10, 1 and nothing.
     pub unit: u16,
     pub thousandths: u64,
     pub has_digit: bool,
-    pub is_wrong: bool,
-}
-
-fn wide(b: u8) -> u64
-    ensures { (result ≡ b) × (result < 256) }
-{
-    b as u64
-}
-
-fn wide_unit(unit: u16) -> u64
-    ensures { (result ≡ unit) × (result < 65536) }
-{
-    unit as u64
 }
 
 fn nothing() -> Decimal
@@ -37,153 +24,112 @@ fn nothing() -> Decimal
         unit: 1000,
         thousandths: 0,
         has_digit: false,
-        is_wrong: false,
     }
 }
 
-fn wrong() -> Decimal
-    ensures { result ≡ levels_wrong }
-{
-    Decimal {
-        unit: 0,
-        thousandths: 0,
-        has_digit: false,
-        is_wrong: true,
-    }
-}
-
-fn point(d: Decimal) -> Decimal
+#[tactic(auto, unfolding(crate::specs::Levels::pointed))]
+fn point(d: Decimal) -> Option<Decimal>
     ensures { result ≡ pointed d }
 {
-    if d.unit == 1000 {
-        return Decimal {
-            unit: 100,
-            thousandths: d.thousandths,
-            has_digit: d.has_digit,
-            is_wrong: false,
-        };
+    if d.unit != 1000 {
+        return None;
     }
-    wrong()
+    Some(Decimal {
+        unit: 100,
+        thousandths: d.thousandths,
+        has_digit: d.has_digit,
+    })
 }
 
-// Below a thousandth only a 0 can stand.
-fn is_too_fine(unit: u16, digit: u64) -> bool
-    ensures { result ≡ (eqb unit 0 && ltb 0 digit) }
-{
-    if unit == 0 {
-        return digit > 0;
-    }
-    false
-}
-
-// A digit behind the point.
-fn part_digit(unit: u16, thousandths: u64, digit: u64) -> Decimal
+// A digit behind the point: below a thousandth only a 0 can stand.
+#[tactic(auto, unfolding(crate::specs::Levels::part_digit))]
+fn part_digit(unit: u16, thousandths: u64, digit: u64) -> Option<Decimal>
     requires thousandths_bound { thousandths ≤ 100000 }
     requires digit_bound { digit < 256 }
     ensures { result ≡ part_digit unit thousandths digit }
 {
-    if is_too_fine(unit, digit) {
-        return wrong();
+    if unit == 0 && digit > 0 {
+        return None;
     }
-    Decimal {
+    Some(Decimal {
         unit: unit / 10,
-        thousandths: thousandths + wide_unit(unit) * digit,
+        thousandths: thousandths + u64::from(unit) * digit,
         has_digit: true,
-        is_wrong: false,
-    }
+    })
 }
 
-fn digit(d: Decimal, digit: u64) -> Decimal
+#[tactic(auto, unfolding(crate::specs::Levels::digit))]
+fn digit(d: Decimal, digit: u64) -> Option<Decimal>
     requires thousandths_bound { d.thousandths ≤ 100000 }
     requires digit_bound { digit < 256 }
     ensures { result ≡ levels_digit d digit }
 {
-    if d.unit == 1000 {
-        return Decimal {
-            unit: 1000,
-            thousandths: 10 * d.thousandths + 1000 * digit,
-            has_digit: true,
-            is_wrong: false,
-        };
+    if d.unit != 1000 {
+        return part_digit(d.unit, d.thousandths, digit);
     }
-    part_digit(d.unit, d.thousandths, digit)
-}
-
-fn decimal_step(d: Decimal, b: u8) -> Decimal
-    ensures { result ≡ step d b }
-{
-    if d.is_wrong {
-        return wrong();
-    }
-    // No level is so high, whatever follows.
-    if d.thousandths > 100000 {
-        return wrong();
-    }
-    if b == b'.' {
-        return point(d);
-    }
-    if b < b'0' {
-        return wrong();
-    }
-    if b > b'9' {
-        return wrong();
-    }
-    digit(d, wide(b - b'0'))
-}
-
-// A level of so many eighths of a dB, 800 at most, or an absent one.
-#[derive(Clone, Copy)]
-pub struct Level {
-    pub is_below: bool,
-    pub eighths: u16,
-    pub is_absent: bool,
-}
-
-#[derive(Clone, Copy)]
-pub enum LevelWord {
-    Is(Level),
-    Wrong,
-}
-
-fn decimal_of(word: &[u8]) -> Decimal
-    ensures { result ≡ decimal_of word.now }
-{
-    let mut d = nothing();
-    for i in 0..word.len() {
-        d = decimal_step(d, word[i]);
-    }
-    d
-}
-
-// Whole eighths are 125 thousandths each; a level has at most 800 of them.
-fn whole_eighths(d: Decimal, is_below: bool) -> LevelWord
-    ensures { result ≡ whole_eighths d is_below }
-{
-    if d.is_wrong {
-        return LevelWord::Wrong;
-    }
-    if !d.has_digit {
-        return LevelWord::Wrong;
-    }
-    if d.thousandths > 100000 {
-        return LevelWord::Wrong;
-    }
-    if d.thousandths % 125 != 0 {
-        return LevelWord::Wrong;
-    }
-    LevelWord::Is(Level {
-        is_below: is_below,
-        eighths: (d.thousandths / 125) as u16,
-        is_absent: false,
+    Some(Decimal {
+        unit: 1000,
+        thousandths: 10 * d.thousandths + 1000 * digit,
+        has_digit: true,
     })
 }
 
-// A level in dB: 8, 6.5, -1.125.
-pub fn level_of(word: &[u8]) -> LevelWord
+#[tactic(auto, unfolding(crate::specs::Levels::step))]
+fn decimal_step(decimal: Option<Decimal>, b: u8) -> Option<Decimal>
+    ensures { result ≡ step decimal b }
+{
+    let d = decimal?;
+    // No level is so high, whatever follows.
+    if d.thousandths > 100000 {
+        return None;
+    }
+    match b {
+        b'.' => point(d),
+        b'0'..=b'9' => digit(d, u64::from(b - b'0')),
+        _ => None,
+    }
+}
+
+// A level of so many eighths of a dB, 800 at most.
+#[derive(Clone, Copy, Debug, PartialEq, Eq)]
+pub struct Level {
+    pub is_below: bool,
+    pub eighths: u16,
+}
+
+fn decimal_of(word: &[u8]) -> Option<Decimal>
+    ensures { result ≡ decimal_of word.now }
+{
+    let mut decimal = Some(nothing());
+    for b in word {
+        decimal = decimal_step(decimal, *b);
+    }
+    decimal
+}
+
+// Whole eighths are 125 thousandths each; a level has at most 800 of them.
+#[tactic(auto, unfolding(crate::specs::Levels::whole_eighths))]
+fn whole_eighths(decimal: Option<Decimal>, is_below: bool) -> Option<Level>
+    ensures { result ≡ whole_eighths decimal is_below }
+{
+    let d = decimal?;
+    if !d.has_digit || d.thousandths > 100000 || d.thousandths % 125 != 0 {
+        return None;
+    }
+    Some(Level {
+        is_below,
+        // What is cut to fewer bits here fits in them, which is proved.
+        eighths: (d.thousandths / 125) as u16,
+    })
+}
+
+// A level in dB: 8, 6.5, -1.125. Read by hand: std's numbers with a point are floats, and take words that are no level.
+#[tactic(auto, using(crate::proofs::Levels::all_but_first), unfolding(crate::specs::Levels::level_of))]
+pub fn level_of(word: &[u8]) -> Option<Level>
     ensures { result ≡ level_of word.now }
 {
-    if word.len() == 0 {
-        return LevelWord::Wrong;
+    if word.is_empty() {
+        return None;
     }
     if word[0] == b'-' {
         return whole_eighths(decimal_of(&word[1..]), true);
@@ -195,14 +141,18 @@ pub fn level_of(word: &[u8]) -> LevelWord
 pub fn signed(l: Level) -> i32
     ensures { result ≡ signed_of l }
 {
-    if l.is_absent {
-        return ABSENT;
+    let e = i32::from(l.eighths);
+    if l.is_below { -e } else { e }
+}
+
+// The same of an early level, which may be none.
+pub fn early_signed(early: Option<Level>) -> i32
+    ensures { result ≡ early_of early }
+{
+    match early {
+        Some(l) => signed(l),
+        None => ABSENT,
     }
-    let e = l.eighths as i32;
-    if l.is_below {
-        return -e;
-    }
-    e
 }
 
 pub fn above(eighths: u16) -> Level
@@ -210,17 +160,6 @@ pub fn above(eighths: u16) -> Level
 {
     Level {
         is_below: false,
-        eighths: eighths,
-        is_absent: false,
-    }
-}
-
-pub fn absent() -> Level
-    ensures { result ≡ no_level }
-{
-    Level {
-        is_below: false,
-        eighths: 0,
-        is_absent: true,
+        eighths,
     }
 }

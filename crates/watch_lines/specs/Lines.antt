@@ -1,9 +1,10 @@
 -- The lines of a report, each as the list of its columns.
-use Rattle.std.specs.Prelude.{Bool, true, false, List, [], ◌∷◌, ◌++◌, ℕ, Float}
+use Rattle.std.specs.Prelude.{Bool, false, List, [], ◌∷◌, ◌++◌, ℕ, Float, Option, Some, None, Result}
 use Rattle.laws.specs.Texts.{ascii}
 use Rattle.laws.specs.Lists.{one}
 use Rattle.model.specs.declared.Floors.{Floors}
-use Rattle.model.specs.declared.WorstReading.{WorstReading}
+use Rattle.refusals.specs.declared.Refusal.{Refusal}
+use Rattle.refusals.specs.Numbers.{numbered}
 use Rattle.watch_text.specs.Text.{Written, put_all, right, decimal, thousandths, millis}
 use Rattle.watch_floats.specs.Floats.{db_text}
 use Rattle.watch_names.specs.Names.{change_name, state_name, event_name}
@@ -83,9 +84,9 @@ channel_floors k f =
     ∷ []
 
 -- the worst floor of late, where it is kept (document 02, R-6)
-abbrev pub worst_column : Bool → WorstReading → List (List ℕ)
-worst_column true r = right 15 (worst_text r) ∷ []
-worst_column false r = []
+abbrev pub worst_column : Option (Result (Option Float) Refusal) → List (List ℕ)
+worst_column (Some r) = right 15 (worst_text (numbered r)) ∷ []
+worst_column None = []
 
 -- where the effective floor comes from, and where the rise floor
 abbrev pub origin_columns : Explanation → List (List ℕ)
@@ -95,6 +96,6 @@ origin_columns x = right 16 (effective_name x.effective) ∷ right 17 (rise_name
 abbrev pub channel_end : ℕ → ℕ → Bool → List (List ℕ)
 channel_end aliveHops rises alive = right 10 (seconds_text aliveHops) ∷ right 7 (decimal rises) ∷ state_name alive ∷ []
 
-abbrev pub channel_line : ℕ → Floors → Bool → WorstReading → Explanation → ℕ → ℕ → Bool → List (List ℕ)
-channel_line k f kept worst x aliveHops rises alive =
-    channel_floors k f ++ (worst_column kept worst ++ (origin_columns x ++ channel_end aliveHops rises alive))
+abbrev pub channel_line : ℕ → Floors → Option (Result (Option Float) Refusal) → Explanation → ℕ → ℕ → Bool → List (List ℕ)
+channel_line k f worst x aliveHops rises alive =
+    channel_floors k f ++ (worst_column worst ++ (origin_columns x ++ channel_end aliveHops rises alive))

@@ -6,10 +6,10 @@ ghost use Rattle.std.specs.Float.Ieee.{of_bits};
 ghost use Rattle.std.specs.Float.{binary32, binary64};
 ghost use Rattle.laws.specs.Lists.{tab};
 ghost use Rattle.log_model.specs.Read.{read_hop};
+ghost use Rattle.refusals.specs.Numbers.{numbered};
 ghost use Rattle.watch_log.specs.Logged.{refused_by, step_by, logged_of};
 
-use laws::{least, wide};
-use log_model::LogRead;
+use refusals::Refusal;
 use streams::Source;
 use watch_recording::{MOST, Step};
 
@@ -17,75 +17,72 @@ use watch_recording::{MOST, Step};
 const MOST_BYTES: usize = 6210;
 
 // Past the end of the patterns there are zeros.
-fn db_at(bits: &[u64], k: usize) -> u64
-    ensures { result ≡ get_or bits.now k 0 }
+fn pattern_at<B: Copy>(bits: &[B], k: usize, zero: B) -> B
+    ensures { result ≡ get_or bits.now k zero }
 {
-    if k < bits.len() {
-        return bits[k];
-    }
-    0
+    bits.get(k).copied().unwrap_or(zero)
 }
 
-fn power_at(bits: &[u32], k: usize) -> u32
-    ensures { result ≡ get_or bits.now k 0 }
+// The float of each pattern.
+fn fill<B: Copy, V: Copy, F: Fn(B) -> V>(bits: &[B], zero: B, values: &mut [V], float: F)
+    ghost of: { B → V }
+    requires callable { F.IsAlwaysCallable float }
+    requires float { (b : B) (v : V) → F.post float b v → v ≡ of b }
+    ensures { values.new ≡ tab (length values.old) (λ k. of (get_or bits.now k zero)) }
 {
-    if k < bits.len() {
-        return bits[k];
+    for (k, x) in values.iter_mut().enumerate() {
+        *x = float(pattern_at(bits, k, zero));
     }
-    0
 }
 
 fn fill_db(bits: &[u64], db: &mut [f64])
     ensures { db.new ≡ tab (length db.old) (λ k. of_bits binary64 (get_or bits.now k 0)) }
 {
-    for k in 0..db.len() {
-        db[k] = low_first::double(db_at(bits, k));
-    }
+    fill(bits, 0, db, |b| low_first::double(b));
 }
 
 fn fill_power(bits: &[u32], power: &mut [f32])
     ensures { power.new ≡ tab (length power.old) (λ k. of_bits binary32 (get_or bits.now k 0)) }
 {
-    for k in 0..power.len() {
-        power[k] = low_first::single(power_at(bits, k));
-    }
+    fill(bits, 0, power, |b| low_first::single(b));
 }
 
 // A cut hop is told by how much of it there is.
-fn refused(no: u16, got: usize) -> Step
-    ensures { result ≡ refused_by no got }
+fn refused(refusal: Refusal, got: usize) -> Step
+    ensures { result ≡ refused_by refusal got }
 {
-    if no == 10 {
-        return Step::Cut(got);
+    match refusal {
+        Refusal::Cut => Step::Cut(got),
+        _ => Step::Refused(refusal),
     }
-    Step::Refused(no)
 }
 
-fn step_by(answer: LogRead, got: usize) -> Step
+// A log has no flag for static.
+fn step_by(answer: Result<Option<usize>, Refusal>, got: usize) -> Step
     ensures { result ≡ step_by answer got }
 {
     match answer {
-        LogRead::Next(_) => Step::Hop(false, got),
-        LogRead::End => Step::End,
-        LogRead::Refused(no) => refused(no, got),
+        Ok(Some(_)) => Step::Hop(false, got),
+        Ok(None) => Step::End,
+        Err(refusal) => refused(refusal, got),
     }
 }
 
-// What the `got` bytes of a hop say that stand behind the header in `log`.
+// What the bytes of a hop say that stand behind the header in `log`.
+#[tactic(auto, unfolding(crate::specs::Logged::logged_of))]
 fn take_hop(
     log: &[u8],
-    got: usize,
     bits: &mut [u64],
     powers: &mut [u32],
     db: &mut [f64],
     power: &mut [f32],
-) -> Step
-    ensures { (result, bits.new, powers.new, db.new, power.new) ≡ logged_of (read_hop log.now 2 bits.old powers.old) got (length db.old) (length power.old) }
+) -> Result<Option<usize>, Refusal>
+    ensures { (numbered result, bits.new, powers.new, db.new, power.new) ≡ logged_of (read_hop log.now 2 bits.old powers.old) (length db.old) (length power.old) }
 {
     let answer = log_read::log_read(log, 2, bits, powers);
     fill_db(bits, db);
     fill_power(powers, power);
-    step_by(answer, got)
+    answer
 }
 
 // The map of the next hop, then as many pairs as it says: how many bytes could be read.
@@ -93,7 +90,7 @@ fn read_bytes(source: &Source, log: &mut [u8], n: usize) -> usize
     requires { (n ≤ 512) × (6210 ≤ length log.old) }
     ensures { result ≤ 6208 }
 {
-    let map = laws::width(n);
+    let map = n.div_ceil(8);
     let got = streams::read_full(source, &mut log[2..2 + map]);
     if got < map {
         return got;
@@ -112,7 +109,7 @@ pub fn read_hop(
     power: &mut [f32],
 ) -> Step {
     let mut log = [0u8; MOST_BYTES];
-    log_hops::put_low(&mut log, 0, 2, wide(n) as u64);
-    let got = read_bytes(source, &mut log, least(wide(n), MOST));
-    take_hop(&log[..2 + got], got, bits, powers, db, power)
+    log_hops::put_low(&mut log, 0, 2, u64::from(n));
+    let got = read_bytes(source, &mut log, usize::from(n).min(MOST));
+    step_by(take_hop(&log[..2 + got], bits, powers, db, power), got)
 }

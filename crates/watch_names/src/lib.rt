@@ -2,79 +2,72 @@
 #![tactic(auto)]
 
 ghost use Rattle.std.specs.Prelude.{◌≡◌};
-ghost use Rattle.watch_text.specs.Text.{put_all};
-ghost use Rattle.watch_names.specs.Names.{change_name, state_name, event_name, refusal_name, request_refusal_name};
+ghost use Rattle.refusals.specs.Numbers.{number_of};
+ghost use Rattle.watch_text.specs.Text.{written, put_all};
+ghost use Rattle.watch_names.specs.Names.{change_name, state_name, event_name, refusal_name};
 
-use watch_text::{LINE, put_text};
+use refusals::Refusal;
+use watch_text::{Line, put_text};
 
 // What became of a channel.
-pub fn put_change(line: &mut [u8; LINE], at: usize, is_alive: bool) -> usize
-    ensures { (line.new, result) ≡ put_all (line.old, at) (change_name is_alive) }
+pub fn put_change(line: &mut Line, is_alive: bool)
+    ensures { written line.new ≡ put_all (written line.old) (change_name is_alive) }
 {
     if is_alive {
-        return put_text(line, at, b"  rise  ");
+        put_text(line, b"  rise  ");
+    } else {
+        put_text(line, b"  drop  ");
     }
-    put_text(line, at, b"  drop  ")
 }
 
-pub fn put_state(line: &mut [u8; LINE], at: usize, is_alive: bool) -> usize
-    ensures { (line.new, result) ≡ put_all (line.old, at) (state_name is_alive) }
+pub fn put_state(line: &mut Line, is_alive: bool)
+    ensures { written line.new ≡ put_all (written line.old) (state_name is_alive) }
 {
     if is_alive {
-        return put_text(line, at, b"  alive");
+        put_text(line, b"  alive");
+    } else {
+        put_text(line, b"  idle");
     }
-    put_text(line, at, b"  idle")
 }
 
-// The changes that were noted of a channel, by bits: 1 a rise, 2 a drop.
-pub fn put_event(line: &mut [u8; LINE], at: usize, event: u8) -> usize
-    ensures { (line.new, result) ≡ put_all (line.old, at) (event_name event) }
+// The changes that were noted of a channel, by bits: 1 a rise, 2 a drop. A set in one byte, and no enum: hops add to it by `|`.
+pub fn put_event(line: &mut Line, event: u8)
+    ensures { written line.new ≡ put_all (written line.old) (event_name event) }
 {
     match event {
-        0 => put_text(line, at, b""),
-        1 => put_text(line, at, b"rise"),
-        2 => put_text(line, at, b"drop"),
-        _ => put_text(line, at, b"rise+drop"),
+        0 => put_text(line, b""),
+        1 => put_text(line, b"rise"),
+        2 => put_text(line, b"drop"),
+        _ => put_text(line, b"rise+drop"),
     }
 }
 
-// The trade's words of document 01, and behind them the words for document 02's.
-pub fn put_refusal(line: &mut [u8; LINE], at: usize, no: u16) -> usize
-    ensures { (line.new, result) ≡ put_all (line.old, at) (refusal_name no) }
+// The trade's words of document 01 for a refusal, and behind them the words for document 02's.
+pub fn put_refusal(line: &mut Line, refusal: Refusal)
+    ensures { written line.new ≡ put_all (written line.old) (refusal_name (number_of refusal)) }
 {
-    match no {
-        1 => put_text(line, at, b"band: no such number of channels"),
-        2 => put_text(line, at, b"store size"),
-        3 => put_text(line, at, b"lengths: one to eight of 1 to 375 hops"),
-        4 => put_text(line, at, b"level: -100 to 100 dB"),
-        5 => put_text(line, at, b"hop size"),
-        6 => put_text(
-            line,
-            at,
-            b"garbled: a dB value is not a number on a slow hop",
-        ),
-        7 => put_text(line, at, b"channel: no such channel"),
-        8 => put_text(line, at, b"mismatch"),
-        9 => put_text(line, at, b"unsound"),
-        _ => put_request_refusal(line, at, no),
-    }
+    put_text(line, words_of(refusal));
 }
 
-fn put_request_refusal(line: &mut [u8; LINE], at: usize, no: u16) -> usize
-    ensures { (line.new, result) ≡ put_all (line.old, at) (request_refusal_name no) }
+fn words_of(refusal: Refusal) -> &'static [u8]
+    ensures { result.now ≡ refusal_name (number_of refusal) }
 {
-    match no {
-        10 => put_text(line, at, b"cut: the log ends in its header or in a hop"),
-        11 => put_text(
-            line,
-            at,
-            b"damaged: the log has a channel too many, or one that did not change",
-        ),
-        12 => put_text(line, at, b"span: 1 to 600 slow hops"),
-        13 => put_text(line, at, b"unlike: the logs differ in channels or hops"),
-        14 => put_text(line, at, b"segments: no such segment"),
-        15 => put_text(line, at, b"address: no such register"),
-        16 => put_text(line, at, b"right: not for this role"),
-        _ => put_text(line, at, b"no refusal has this number"),
+    match refusal {
+        Refusal::Band => b"band: no such number of channels",
+        Refusal::StoreSize => b"store size",
+        Refusal::Lengths => b"lengths: one to eight of 1 to 375 hops",
+        Refusal::Level => b"level: -100 to 100 dB",
+        Refusal::HopSize => b"hop size",
+        Refusal::Garbled => b"garbled: a dB value is not a number on a slow hop",
+        Refusal::Channel => b"channel: no such channel",
+        Refusal::Mismatch => b"mismatch",
+        Refusal::Unsound => b"unsound",
+        Refusal::Cut => b"cut: the log ends in its header or in a hop",
+        Refusal::Damaged => b"damaged: the log has a channel too many, or one that did not change",
+        Refusal::Span => b"span: 1 to 600 slow hops",
+        Refusal::Unlike => b"unlike: the logs differ in channels or hops",
+        Refusal::Segments => b"segments: no such segment",
+        Refusal::Address => b"address: no such register",
+        Refusal::Right => b"right: not for this role",
     }
 }

@@ -1,76 +1,80 @@
 // The head of a report: the settings, or the names of the columns.
+use crate::Watched;
 use crate::out::say;
 use streams::STDOUT;
-use watch_figures::{thousandths, wide};
+use watch_figures::thousandths;
 use watch_levels::Level;
-use watch_text::{LINE, put_number, put_text, put_thousandths};
+use watch_text::{Line, put_number, put_text, put_thousandths};
 use watch_words::Settings;
 
 // Eighths of a dB, as they were given.
-fn put_level(line: &mut [u8; LINE], at: usize, l: Level) -> usize {
-    if l.is_absent {
-        return put_text(line, at, b"none");
-    }
-    let at = put_thousandths(line, at, l.is_below, thousandths(l.eighths), 0);
-    put_text(line, at, b" dB")
+fn put_level(line: &mut Line, l: Level) {
+    put_thousandths(line, l.is_below, thousandths(l.eighths), 0);
+    put_text(line, b" dB");
 }
 
-fn put_lengths(line: &mut [u8; LINE], at: usize, lengths: &[u16]) -> usize {
-    let mut end = at;
-    for i in 0..lengths.len() {
-        end = put_text(line, end, b" ");
-        end = put_number(line, end, wide(lengths[i]), 0);
+// An early level may be none.
+fn put_early(line: &mut Line, early: Option<Level>) {
+    match early {
+        Some(l) => put_level(line, l),
+        None => put_text(line, b"none"),
     }
-    end
+}
+
+fn put_lengths(line: &mut Line, lengths: &[u16]) {
+    for length in lengths {
+        put_text(line, b" ");
+        put_number(line, u64::from(*length), 0);
+    }
 }
 
 // Over how many slow hops the worst floor goes, where it is kept.
-fn put_span(line: &mut [u8; LINE], at: usize, span: usize) -> usize {
-    if span == 0 {
-        return at;
+fn put_span(line: &mut Line, span: Option<usize>) {
+    if let Some(span) = span {
+        put_text(line, b" Worst floor of the last ");
+        // No From leads from usize to u64.
+        put_number(line, span as u64, 0);
+        put_text(line, b" slow hops.");
     }
-    let at = put_text(line, at, b" Worst floor of the last ");
-    let at = put_number(line, at, span as u64, 0);
-    put_text(line, at, b" slow hops.")
 }
 
 // Where the dB come from, if not from what is watched (R-13).
-fn put_linear(line: &mut [u8; LINE], at: usize, is_linear: bool) -> usize {
+fn put_linear(line: &mut Line, is_linear: bool) {
     if is_linear {
-        return put_text(line, at, b" The dB are worked out from the powers.");
+        put_text(line, b" The dB are worked out from the powers.");
     }
-    at
 }
 
 fn print_settings(s: Settings, lengths: &[u16], n: u16) {
-    let mut line = [0u8; LINE];
-    let at = put_number(&mut line, 0, wide(n), 0);
-    let at = put_text(&mut line, at, b" channels, 375 hops a second. On ");
-    let at = put_level(&mut line, at, s.on);
-    let at = put_text(&mut line, at, b", off ");
-    let at = put_level(&mut line, at, s.off);
-    let at = put_text(&mut line, at, b", early ");
-    let at = put_level(&mut line, at, s.early);
-    let at = put_text(&mut line, at, b"; windows of");
-    let at = put_lengths(&mut line, at, lengths);
-    let at = put_text(&mut line, at, b" hops.");
-    let at = put_span(&mut line, at, s.worst);
-    let at = put_linear(&mut line, at, s.is_linear);
-    let at = put_text(&mut line, at, b"\n\n");
-    say(&line, at);
+    let mut line = Line::new();
+    put_number(&mut line, u64::from(n), 0);
+    put_text(&mut line, b" channels, 375 hops a second. On ");
+    put_level(&mut line, s.on);
+    put_text(&mut line, b", off ");
+    put_level(&mut line, s.off);
+    put_text(&mut line, b", early ");
+    put_early(&mut line, s.early);
+    put_text(&mut line, b"; windows of");
+    put_lengths(&mut line, lengths);
+    put_text(&mut line, b" hops.");
+    put_span(&mut line, s.worst);
+    put_linear(&mut line, s.is_linear);
+    put_text(&mut line, b"\n\n");
+    say(&line);
 }
 
-pub fn print_head(name: &[u8], s: Settings, lengths: &[u16], n: u16) {
+pub fn print_head(w: Watched, lengths: &[u16]) {
+    let s = w.s;
     if s.is_csv {
         print_csv_head(s);
         return;
     }
     io::write_all(STDOUT, b"Watching ");
-    io::write_all(STDOUT, name);
+    io::write_all(STDOUT, w.name);
     io::write_all(STDOUT, b": ");
-    print_settings(s, lengths, n);
-    if s.explained > 0 {
-        print_explain_head(s.explained - 1);
+    print_settings(s, lengths, w.n);
+    if let Some(k) = s.explained {
+        print_explain_head(k);
         return;
     }
     io::write_all(
@@ -84,11 +88,12 @@ pub fn print_head(name: &[u8], s: Settings, lengths: &[u16], n: u16) {
 }
 
 fn print_explain_head(k: usize) {
-    let mut line = [0u8; LINE];
-    let at = put_text(&mut line, 0, b"Where the floors of channel ");
-    let at = put_number(&mut line, at, k as u64, 0);
-    let at = put_text(&mut line, at, b" come from:\n\n");
-    say(&line, at);
+    let mut line = Line::new();
+    put_text(&mut line, b"Where the floors of channel ");
+    // No From leads from usize to u64.
+    put_number(&mut line, k as u64, 0);
+    put_text(&mut line, b" come from:\n\n");
+    say(&line);
     io::write_all(
         STDOUT,
         b"     hop   seconds  effective  effective from  rise floor  rise floor from\n",
@@ -103,7 +108,7 @@ fn print_csv_head(s: Settings) {
     if s.has_reference {
         io::write_all(STDOUT, b",reference");
     }
-    if s.worst > 0 {
+    if s.worst.is_some() {
         io::write_all(STDOUT, b",worst_floor_db");
     }
     io::write_all(STDOUT, b"\n");

@@ -1,76 +1,64 @@
-// Numbers as words of the command line: a channel and a span of slow hops. 0 is the answer to a word that is none.
+// Numbers as words of the command line: a channel and a span of slow hops. Read by hand, and not by `parse`, which takes a sign too.
 #![tactic(auto)]
 
-ghost use Rattle.std.specs.Prelude.{◌≡◌, ◌<◌};
+ghost use Rattle.std.specs.Prelude.{◌≡◌, Some};
 ghost use mathlib.Core.List.{foldl};
-ghost use Rattle.watch_numbers.specs.Numbers.{step, channel_of, span_of};
+ghost use Rattle.watch_numbers.specs.Numbers.{step, from_to, channel_of, span_of};
 
 // As many channels as a bank can have.
 const MOST: usize = 512;
 
-// The longest span, with 1 added.
-const LONGEST: usize = 601;
+// The longest span.
+const LONGEST: usize = 600;
 
-fn wide(b: u8) -> usize
-    ensures { (result ≡ b) × (result < 256) }
+// The number after one byte more, if it is one.
+#[tactic(auto, unfolding(crate::specs::Numbers::step))]
+fn digit_step(number: Option<usize>, b: u8) -> Option<usize>
+    ensures { result ≡ step number b }
 {
-    b as usize
-}
-
-// A number with 1 added, so that 0 is left for what is none.
-fn digit_step(v: usize, b: u8) -> usize
-    ensures { result ≡ step v b }
-{
-    if v < 1 {
-        return 0;
-    }
+    let v = number?;
     // No number that is asked for is so high, whatever follows.
-    if v > LONGEST {
-        return 0;
+    if v > LONGEST || b < b'0' || b > b'9' {
+        return None;
     }
-    if b < b'0' {
-        return 0;
-    }
-    if b > b'9' {
-        return 0;
-    }
-    10 * (v - 1) + wide(b - b'0') + 1
+    Some(10 * v + usize::from(b - b'0'))
 }
 
-fn number_of(word: &[u8]) -> usize
-    ensures { result ≡ foldl step 1 word.now }
+fn number_of(word: &[u8]) -> Option<usize>
+    ensures { result ≡ foldl step (Some 0) word.now }
 {
-    let mut v: usize = 1;
-    for i in 0..word.len() {
-        v = digit_step(v, word[i]);
+    let mut number = Some(0);
+    for b in word {
+        number = digit_step(number, *b);
     }
-    v
+    number
 }
 
-// A channel's number, with 1 added.
-pub fn channel_of(word: &[u8]) -> usize
+fn number_within(word: &[u8], low: usize, high: usize) -> Option<usize>
+    ensures { result ≡ from_to low high (foldl step (Some 0) word.now) }
+{
+    let v = number_of(word)?;
+    if v < low || v > high {
+        return None;
+    }
+    Some(v)
+}
+
+// A channel's number. A word with nothing in it is none.
+#[tactic(auto, unfolding(crate::specs::Numbers::channel_of))]
+pub fn channel_of(word: &[u8]) -> Option<usize>
     ensures { result ≡ channel_of word.now }
 {
-    if word.len() == 0 {
-        return 0;
+    if word.is_empty() {
+        return None;
     }
-    let v = number_of(word);
-    if v > MOST {
-        return 0;
-    }
-    v
+    number_within(word, 0, MOST - 1)
 }
 
 // A span, 1 to 600. A word with nothing in it has the number 0, and is none.
-pub fn span_of(word: &[u8]) -> usize
+#[tactic(auto, unfolding(crate::specs::Numbers::span_of))]
+pub fn span_of(word: &[u8]) -> Option<usize>
     ensures { result ≡ span_of word.now }
 {
-    let v = number_of(word);
-    if v < 2 {
-        return 0;
-    }
-    if v > LONGEST {
-        return 0;
-    }
-    v - 1
+    number_within(word, 1, LONGEST)
 }

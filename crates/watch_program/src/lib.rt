@@ -8,7 +8,7 @@ use std::env::{Env, FillError};
 use std::fs::{File, Files};
 use std::io::{Error, ErrorKind, Result, Stdin};
 use streams::{STDERR, Source};
-use watch_words::Settings;
+use watch_words::{Fault, Settings};
 
 // The words of the command line from one on and up to another, one after another.
 fn read_words(env: &impl Env, first: usize, end: usize, lengths: &mut [u16; 8]) -> Settings {
@@ -23,7 +23,7 @@ fn read_word(env: &impl Env, s: Settings, i: usize, lengths: &mut [u16; 8]) -> S
     let mut word = io::buffer();
     match env.arg(i, &mut word) {
         Ok(len) => watch_words::take_word(s, i, &word[..len], lengths),
-        Err(_) => watch_words::faulty(s, watch_words::TOO_LONG, i),
+        Err(_) => watch_words::faulty(s, Fault::TooLong, i),
     }
 }
 
@@ -45,9 +45,16 @@ fn watch_named(files: &impl Files<File = File>, name: &[u8], s: Settings, length
     }
 }
 
-fn watch_file(rt: &(impl Env + Files<File = File>), input: Stdin, s: Settings, lengths: &[u16; 8]) {
+// The word of this number names what is watched.
+fn watch_file(
+    rt: &(impl Env + Files<File = File>),
+    input: Stdin,
+    file: usize,
+    s: Settings,
+    lengths: &[u16; 8],
+) {
     let mut name = io::buffer();
-    let len = rt.arg(s.file, &mut name).unwrap_or(0);
+    let len = rt.arg(file, &mut name).unwrap_or(0);
     if &name[..len] == b"-".as_slice() {
         stores_of::watch_open(&Source::Input(input), b"standard input", s, lengths);
         return;
@@ -58,9 +65,8 @@ fn watch_file(rt: &(impl Env + Files<File = File>), input: Stdin, s: Settings, l
 // How many words the command line has, the program's own name among them.
 fn word_count(env: &impl Env) -> usize {
     for i in 0..usize::MAX {
-        match env.arg(i, &mut []) {
-            Err(FillError::NotPresent) => return i,
-            _ => {}
+        if let Err(FillError::NotPresent) = env.arg(i, &mut []) {
+            return i;
         }
     }
     usize::MAX
@@ -78,16 +84,17 @@ pub fn run_words(rt: &(impl Env + Files<File = File>), input: Stdin, first: usiz
         watch_help::print_help();
         return;
     }
-    if s.fault != watch_words::NOTHING {
-        watch_help::print_fault(rt, s);
+    if let Some(fault) = s.fault {
+        watch_help::print_fault(rt, fault, s.word);
         return;
     }
-    if s.file == 0 {
-        io::write_all(
-            STDERR,
-            b"watch: no recording or log is named; watch --help says how\n",
-        );
-        return;
+    match s.file {
+        Some(file) => watch_file(rt, input, file, s, &lengths),
+        None => {
+            io::write_all(
+                STDERR,
+                b"watch: no recording or log is named; watch --help says how\n",
+            );
+        }
     }
-    watch_file(rt, input, s, &lengths);
 }

@@ -1,10 +1,10 @@
 // The stores that a recording or a log needs, on the stack, and their parts.
 use crate::hops::watch_hops;
-use laws::wide;
 use model::layout::{BLOCK_CHANNELS, BLOCK_REST, CHANNEL_LEN};
+use refusals::Refusal;
 use streams::Source;
-use watch_notices::{faults, head};
-use watch_stores::{make, make_worst};
+use watch_notices::{Watched, faults, head};
+use watch_stores::{Stores, make, make_worst};
 use watch_words::Settings;
 
 // A bank of 512 channels.
@@ -34,166 +34,81 @@ pub fn watch_open(source: &Source, name: &[u8], s: Settings, lengths: &[u16; 8])
         return;
     }
     let n = low_first::two_bytes(&two, 0);
-    if !store_sizes::in_band(wide(n)) {
+    if !store_sizes::in_band(usize::from(n)) {
         faults::print_bad_band(name, n);
         return;
     }
-    watch_channels(source, name, s, lengths, n);
+    watch_channels(Watched { source, name, s, n }, lengths);
 }
 
-fn watch_channels(source: &Source, name: &[u8], s: Settings, lengths: &[u16], n: u16) {
-    let count = s.lengths;
-    if count > lengths.len() {
-        return;
+fn watch_channels(w: Watched, lengths: &[u16]) {
+    if let Some(lengths) = lengths.get(..w.s.lengths) {
+        let gate_f_len = gate_making::gate_f_len(usize::from(w.n), lengths);
+        if gate_f_len > MOST_GATE_F {
+            faults::print_too_large(w, gate_f_len, MOST_GATE_F);
+            return;
+        }
+        watch_sized(w, lengths, gate_f_len);
     }
-    let gate_f_len = gate_making::gate_f_len(wide(n), &lengths[..count]);
-    if gate_f_len > MOST_GATE_F {
-        faults::print_too_large(name, n, gate_f_len, MOST_GATE_F);
-        return;
-    }
-    watch_sized(source, name, s, &lengths[..count], n, gate_f_len);
 }
 
-fn watch_sized(
-    source: &Source,
-    name: &[u8],
-    s: Settings,
-    lengths: &[u16],
-    n: u16,
-    gate_f_len: usize,
-) {
+// Lends the parts of the stores that the recording takes.
+fn watch_sized(w: Watched, lengths: &[u16], gate_f_len: usize) {
+    let n = usize::from(w.n);
+    let bank_len = store_sizes::bank_len(n);
+    let bank_f_len = store_sizes::bank_f_len(n);
+    let worst_f_len = match w.s.worst {
+        Some(span) => worst_store::worst_f_len(n, span),
+        None => 0,
+    };
+    if bank_len > MOST_BANK
+        || bank_f_len > MOST_BANK_F
+        || worst_f_len > MOST_WORST_F
+        || gate_f_len > MOST_GATE_F
+    {
+        return;
+    }
     let mut bank = [0u16; MOST_BANK];
     let mut bank_f = [0.0f64; MOST_BANK_F];
     let mut worst = [0u16; WORST];
     let mut worst_f = [0.0f64; MOST_WORST_F];
     let mut gate = [0u16; GATE];
     let mut gate_f = [0.0f64; MOST_GATE_F];
-    watch_arrays(
-        source,
-        name,
-        s,
+    let mut stores = Stores {
+        bank: &mut bank[..bank_len],
+        bank_f: &mut bank_f[..bank_f_len],
+        worst: &mut worst,
+        worst_f: &mut worst_f[..worst_f_len],
+        gate: &mut gate,
+        gate_f: &mut gate_f[..gate_f_len],
+    };
+    watch_with(w, lengths, &mut stores);
+}
+
+fn make_all(w: Watched, lengths: &[u16], stores: &mut Stores) -> Result<(), Refusal> {
+    make(
+        w.s,
         lengths,
-        n,
-        gate_f_len,
-        &mut bank,
-        &mut bank_f,
-        &mut worst,
-        &mut worst_f,
-        &mut gate,
-        &mut gate_f,
-    );
-}
-
-// Whole arrays become slices here, with no proof of their lengths.
-fn watch_arrays(
-    source: &Source,
-    name: &[u8],
-    s: Settings,
-    lengths: &[u16],
-    n: u16,
-    gate_f_len: usize,
-    bank: &mut [u16; MOST_BANK],
-    bank_f: &mut [f64; MOST_BANK_F],
-    worst: &mut [u16; WORST],
-    worst_f: &mut [f64; MOST_WORST_F],
-    gate: &mut [u16; GATE],
-    gate_f: &mut [f64; MOST_GATE_F],
-) {
-    watch_parts(
-        source, name, s, lengths, n, gate_f_len, bank, bank_f, worst, worst_f, gate, gate_f,
-    );
-}
-
-// The parts of the stores that the recording takes.
-fn watch_parts(
-    source: &Source,
-    name: &[u8],
-    s: Settings,
-    lengths: &[u16],
-    n: u16,
-    gate_f_len: usize,
-    bank: &mut [u16],
-    bank_f: &mut [f64],
-    worst: &mut [u16],
-    worst_f: &mut [f64],
-    gate: &mut [u16],
-    gate_f: &mut [f64],
-) {
-    let bank_len = store_sizes::bank_len(wide(n));
-    let bank_f_len = store_sizes::bank_f_len(wide(n));
-    let worst_f_len = worst_store::worst_f_len(wide(n), s.worst);
-    if bank_len > bank.len() {
-        return;
-    }
-    if bank_f_len > bank_f.len() {
-        return;
-    }
-    if worst_f_len > worst_f.len() {
-        return;
-    }
-    if gate_f_len > gate_f.len() {
-        return;
-    }
-    watch_with(
-        source,
-        name,
-        s,
-        lengths,
-        n,
-        &mut bank[..bank_len],
-        &mut bank_f[..bank_f_len],
-        worst,
-        &mut worst_f[..worst_f_len],
-        gate,
-        &mut gate_f[..gate_f_len],
-    );
-}
-
-// Makes the stores: 0, or the number of the refusal.
-fn make_all(
-    s: Settings,
-    lengths: &[u16],
-    n: u16,
-    bank: &mut [u16],
-    bank_f: &mut [f64],
-    worst: &mut [u16],
-    worst_f: &mut [f64],
-    gate: &mut [u16],
-    gate_f: &mut [f64],
-) -> u16 {
-    let no = make(s, lengths, n, bank, bank_f, gate, gate_f);
-    if no != 0 {
-        return no;
-    }
-    make_worst(s, n, worst, worst_f)
+        w.n,
+        stores.bank,
+        stores.bank_f,
+        stores.gate,
+        stores.gate_f,
+    )?;
+    make_worst(w.s, w.n, stores.worst, stores.worst_f)
 }
 
 // Makes the stores, and watches the hops.
-fn watch_with(
-    source: &Source,
-    name: &[u8],
-    s: Settings,
-    lengths: &[u16],
-    n: u16,
-    bank: &mut [u16],
-    bank_f: &mut [f64],
-    worst: &mut [u16],
-    worst_f: &mut [f64],
-    gate: &mut [u16],
-    gate_f: &mut [f64],
-) {
-    let no = make_all(s, lengths, n, bank, bank_f, worst, worst_f, gate, gate_f);
-    if no != 0 {
-        faults::print_refusal(name, 0, 0, no);
+fn watch_with(w: Watched, lengths: &[u16], stores: &mut Stores) {
+    if let Err(refusal) = make_all(w, lengths, stores) {
+        faults::print_refusal(w, refusal);
         return;
     }
     // A bank of n channels has none to explain beyond.
-    if s.explained > wide(n) {
-        faults::print_refusal(name, 0, 0, 7);
+    if w.s.explained.is_some_and(|k| k >= usize::from(w.n)) {
+        faults::print_refusal(w, Refusal::Channel);
         return;
     }
-    head::print_head(name, s, lengths, n);
-    watch_hops(
-        source, name, s, n, bank, bank_f, worst, worst_f, gate, gate_f,
-    );
+    head::print_head(w, lengths);
+    watch_hops(w, stores);
 }

@@ -4,7 +4,6 @@
 ghost use Rattle.std.specs.Prelude.{◌≡◌, ◌≤◌, length};
 ghost use Rattle.watch_read.specs.Read.{read_of};
 
-use laws::least;
 use streams::Source;
 use watch_recording::{MOST_HOP_BYTES, Step};
 
@@ -27,6 +26,6 @@ fn read_values(source: &Source, n: u16, hop: &mut [u8], db: &mut [f64], power: &
 // The next hop: its values go to the lists.
 pub fn read_hop(source: &Source, n: u16, db: &mut [f64], power: &mut [f32]) -> Step {
     let mut hop = [0u8; MOST_HOP_BYTES];
-    let size = least(watch_recording::hop_bytes(n), MOST_HOP_BYTES);
+    let size = watch_recording::hop_bytes(n).min(MOST_HOP_BYTES);
     read_values(source, n, &mut hop[..size], db, power)
 }

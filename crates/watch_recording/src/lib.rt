@@ -6,7 +6,7 @@ ghost use Rattle.laws.specs.Lists.{tab};
 ghost use Rattle.low_first.specs.LowFirst.{double_at, single_at};
 ghost use Rattle.watch_recording.specs.Recording.{hop_bytes, place_at, place_after, step_of};
 
-use std::num::wrapping_add_u64;
+use refusals::Refusal;
 
 // More channels than a bank takes are refused by the bank; this many fit the buffers.
 pub const MOST: usize = 512;
@@ -14,7 +14,7 @@ pub const MOST: usize = 512;
 pub const MOST_HOP_BYTES: usize = 6145;
 
 // What stands where a hop is due.
-#[derive(Clone, Copy)]
+#[derive(Clone, Copy, Debug, PartialEq, Eq)]
 pub enum Step {
     // Nothing: the recording ends here.
     End,
@@ -22,8 +22,8 @@ pub enum Step {
     Cut(usize),
     // A flag byte with a bit that means nothing.
     BadFlag(u8),
-    // What the reader of a log refuses, by this number.
-    Refused(u16),
+    // What the reader of a log refuses.
+    Refused(Refusal),
     // A whole hop of so many bytes; true: static is heard.
     Hop(bool, usize),
 }
@@ -32,17 +32,11 @@ pub enum Step {
 pub fn hop_bytes(n: u16) -> usize
     ensures { result ≡ hop_bytes n }
 {
-    1 + 12 * wide(n)
+    1 + 12 * usize::from(n)
 }
 
-fn wide(x: u16) -> usize
-    ensures { (result ≡ x) × (result < 65536) }
-{
-    x as usize
-}
-
-// Where a hop stands: its number and its first byte, from 0; and whether hops are still read.
-#[derive(Clone, Copy)]
+// Where a hop stands: its number and its first byte, from 0; and whether hops are still read. No Option: the last place is told after the end too.
+#[derive(Clone, Copy, Debug, PartialEq, Eq)]
 pub struct Place {
     pub hop: u64,
     pub byte: u64,
@@ -65,8 +59,9 @@ pub fn next_place(p: Place, size: usize) -> Place
     ensures { result ≡ place_after p size }
 {
     Place {
-        hop: wrapping_add_u64(p.hop, 1),
-        byte: wrapping_add_u64(p.byte, size as u64),
+        hop: p.hop.wrapping_add(1),
+        // No From leads from usize to u64.
+        byte: p.byte.wrapping_add(size as u64),
         is_on: true,
     }
 }
@@ -90,25 +85,20 @@ pub fn is_slow(hop: u64) -> bool
 pub fn step_of(bytes: &[u8], size: usize) -> Step
     ensures { result ≡ step_of bytes.now size }
 {
-    if bytes.len() == 0 {
-        return Step::End;
+    match bytes {
+        [] => Step::End,
+        [flag, ..] if *flag > 1 => Step::BadFlag(*flag),
+        _ if bytes.len() < size => Step::Cut(bytes.len()),
+        [flag, ..] => Step::Hop(*flag == 1, size),
     }
-    let flag = bytes[0];
-    if flag > 1 {
-        return Step::BadFlag(flag);
-    }
-    if bytes.len() < size {
-        return Step::Cut(bytes.len());
-    }
-    Step::Hop(flag == 1, size)
 }
 
 // The dB values of a hop, behind its flag.
 pub fn fill_db(hop: &[u8], db: &mut [f64])
     ensures { db.new ≡ tab (length db.old) (λ k. double_at hop.now (1 + 8 * k)) }
 {
-    for k in 0..db.len() {
-        db[k] = low_first::double_at(hop, 1 + 8 * k);
+    for (k, x) in db.iter_mut().enumerate() {
+        *x = low_first::double_at(hop, 1 + 8 * k);
     }
 }
 
@@ -116,8 +106,8 @@ pub fn fill_db(hop: &[u8], db: &mut [f64])
 pub fn fill_power(hop: &[u8], n: u16, power: &mut [f32])
     ensures { power.new ≡ tab (length power.old) (λ k. single_at hop.now (1 + 8 * n + 4 * k)) }
 {
-    let first = 1 + 8 * wide(n);
-    for k in 0..power.len() {
-        power[k] = low_first::single_at(hop, first + 4 * k);
+    let first = 1 + 8 * usize::from(n);
+    for (k, x) in power.iter_mut().enumerate() {
+        *x = low_first::single_at(hop, first + 4 * k);
     }
 }

@@ -6,7 +6,8 @@ use origins::Explanation;
 use watch_lines::explained::put_explain_line;
 use watch_notices::out::say;
 use watch_origins::{explanation_of, is_news, no_explanation};
-use watch_text::{LINE, put_text};
+use watch_stores::Stores;
+use watch_text::{Line, put_text};
 use watch_words::Settings;
 
 pub fn explanation_shown(bank: &[u16], bank_f: &[f64], k: usize) -> Explanation
@@ -16,13 +17,13 @@ pub fn explanation_shown(bank: &[u16], bank_f: &[f64], k: usize) -> Explanation
 }
 
 // What a hop is held against: the floors as they are before it is heard. Where nothing is to be explained nothing is worked out.
-pub fn explanation_before(s: Settings, bank: &[u16], bank_f: &[f64]) -> Explanation
-    ensures { result ≡ explanation_before s.explained bank.now bank_f.now }
+pub fn explanation_before(s: Settings, stores: &Stores) -> Explanation
+    ensures { result ≡ explanation_before s.explained stores.now.bank.now stores.now.bank_f.now }
 {
-    if s.explained == 0 {
-        return no_explanation();
+    match s.explained {
+        Some(k) => explanation_shown(stores.bank, stores.bank_f, k),
+        None => no_explanation(),
     }
-    explanation_shown(bank, bank_f, s.explained - 1)
 }
 
 // A line at the first hop, and whenever there is news.
@@ -34,8 +35,8 @@ pub fn print_explanation(hop: u64, k: usize, before: Explanation, bank: &[u16], 
 }
 
 fn print_line(hop: u64, x: Explanation) {
-    let mut line = [0u8; LINE];
-    let at = put_explain_line(&mut line, hop, x);
-    let at = put_text(&mut line, at, b"\n");
-    say(&line, at);
+    let mut line = Line::new();
+    put_explain_line(&mut line, hop, x);
+    put_text(&mut line, b"\n");
+    say(&line);
 }

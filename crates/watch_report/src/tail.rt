@@ -4,46 +4,44 @@ use crate::out::{floors_shown, put_reference, worst_shown};
 use streams::STDOUT;
 use watch_lines::{put_channel_line, put_total_line};
 use watch_notices::out::say;
-use watch_text::{LINE, put_text};
+use watch_stores::Stores;
+use watch_text::{Line, put_text};
 use watch_words::Settings;
 
+// What is kept of the channels from hop to hop: which are alive, for how many hops each was, what was noted since the last slow hop, how often
+// each came alive.
+#[derive(Drop)]
+pub struct Kept<'a> {
+    pub alive: &'a mut [u8],
+    pub alive_hops: &'a mut [u64],
+    pub events: &'a mut [u8],
+    pub rises: &'a mut [u64],
+}
+
 // The channels at the end.
-pub fn print_tail(
-    s: Settings,
-    hops: u64,
-    bank: &[u16],
-    bank_f: &[f64],
-    worst: &[u16],
-    worst_f: &[f64],
-    alive: &[u8],
-    alive_hops: &[u64],
-    rises: &[u64],
-) {
+pub fn print_tail(s: Settings, hops: u64, stores: &Stores, kept: &Kept) {
     if s.is_csv {
         return;
     }
     print_total(s, hops);
-    for k in 0..alive.len() {
+    for k in 0..kept.alive.len() {
         print_channel(
             s,
-            bank,
-            bank_f,
-            worst,
-            worst_f,
+            stores,
             k,
-            watch_states::is_set(alive, k),
-            watch_states::count_at(alive_hops, k),
-            watch_states::count_at(rises, k),
+            watch_states::is_set(kept.alive, k),
+            watch_states::count_at(kept.alive_hops, k),
+            watch_states::count_at(kept.rises, k),
         );
     }
 }
 
 fn print_total(s: Settings, hops: u64) {
-    let mut line = [0u8; LINE];
-    let at = put_total_line(&mut line, hops);
-    say(&line, at);
+    let mut line = Line::new();
+    put_total_line(&mut line, hops);
+    say(&line);
     io::write_all(STDOUT, b"channel        raw  effective  rise floor");
-    if s.worst > 0 {
+    if s.worst.is_some() {
         io::write_all(STDOUT, b"  worst of late");
     }
     io::write_all(
@@ -54,31 +52,26 @@ fn print_total(s: Settings, hops: u64) {
 
 fn print_channel(
     s: Settings,
-    bank: &[u16],
-    bank_f: &[f64],
-    worst: &[u16],
-    worst_f: &[f64],
+    stores: &Stores,
     k: usize,
     is_alive: bool,
     alive_hops: u64,
     rises: u64,
 ) {
-    let mut line = [0u8; LINE];
-    let f = floors_shown(bank, bank_f, k);
-    let w = worst_shown(s, bank, bank_f, worst, worst_f, k);
-    let x = explanation_shown(bank, bank_f, k);
-    let at = put_channel_line(
-        &mut line,
+    let mut line = Line::new();
+    let f = floors_shown(stores.bank, stores.bank_f, k);
+    let w = worst_shown(
+        s,
+        stores.bank,
+        stores.bank_f,
+        stores.worst,
+        stores.worst_f,
         k,
-        f,
-        s.worst > 0,
-        w,
-        x,
-        alive_hops,
-        rises,
-        is_alive,
     );
-    let at = put_reference(&mut line, at, bank, bank_f, k, s.has_reference && is_alive);
-    let at = put_text(&mut line, at, b"\n");
-    say(&line, at);
+    let x = explanation_shown(stores.bank, stores.bank_f, k);
+    put_channel_line(&mut line, k, f, w, x, alive_hops, rises, is_alive);
+    let is_shown = s.has_reference && is_alive;
+    put_reference(&mut line, stores.bank, stores.bank_f, k, is_shown);
+    put_text(&mut line, b"\n");
+    say(&line);
 }

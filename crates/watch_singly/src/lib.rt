@@ -1,28 +1,23 @@
 // The hops of a recording or a log one after another, by single calls: each read, heard, told and counted.
 #![tactic(auto)]
 
-use laws::{least, wide};
-use streams::Source;
-use watch_follow::follow;
-use watch_hear::hear;
+use watch_follow::{Marked, follow};
+use watch_hear::{Stop, hear};
+use watch_notices::Watched;
 use watch_recording::{MOST, Step};
 use watch_report::explanations::explanation_before;
-use watch_report::tail;
-use watch_words::Settings;
+use watch_report::tail::{Kept, print_tail};
+use watch_stores::Stores;
+
+// The bit patterns of a log's hop.
+#[derive(Drop)]
+struct Patterns<'a> {
+    bits: &'a mut [u64],
+    powers: &'a mut [u32],
+}
 
 // Lends each list at the size of what is watched. Before the first hop of a log all bit patterns are zero.
-pub fn watch_each(
-    source: &Source,
-    name: &[u8],
-    s: Settings,
-    n: u16,
-    bank: &mut [u16],
-    bank_f: &mut [f64],
-    worst: &mut [u16],
-    worst_f: &mut [f64],
-    gate: &mut [u16],
-    gate_f: &mut [f64],
-) {
+pub fn watch_each(w: Watched, stores: &mut Stores) {
     let mut bits = [0u64; MOST];
     let mut powers = [0u32; MOST];
     let mut db = [0.0f64; MOST];
@@ -33,113 +28,108 @@ pub fn watch_each(
     let mut events = [0u8; MOST];
     let mut alive_hops = [0u64; MOST];
     let mut rises = [0u64; MOST];
-    let k = least(wide(n), MOST);
+    let k = usize::from(w.n).min(MOST);
+    let mut patterns = Patterns {
+        bits: &mut bits[..k],
+        powers: &mut powers[..k],
+    };
+    let mut kept = Kept {
+        alive: &mut alive[..k],
+        alive_hops: &mut alive_hops[..k],
+        events: &mut events[..k],
+        rises: &mut rises[..k],
+    };
     watch_all(
-        source,
-        name,
-        s,
-        n,
-        bank,
-        bank_f,
-        worst,
-        worst_f,
-        gate,
-        gate_f,
-        &mut bits[..k],
-        &mut powers[..k],
+        w,
+        stores,
+        &mut patterns,
         &mut db[..k],
         &mut power[..k],
         &mut rise[..k],
         &mut drop[..k],
-        &mut alive[..k],
-        &mut alive_hops[..k],
-        &mut events[..k],
-        &mut rises[..k],
+        &mut kept,
     );
 }
 
 // The next hop as it was kept, in a log or in a recording.
-fn read_kept(
-    source: &Source,
-    s: Settings,
-    n: u16,
-    bits: &mut [u64],
-    powers: &mut [u32],
-    db: &mut [f64],
-    power: &mut [f32],
-) -> Step {
-    if s.is_log {
-        return watch_log::read_hop(source, n, bits, powers, db, power);
+fn read_kept(w: Watched, p: &mut Patterns, db: &mut [f64], power: &mut [f32]) -> Step {
+    if w.s.is_log {
+        return watch_log::read_hop(w.source, w.n, p.bits, p.powers, db, power);
     }
-    watch_read::read_hop(source, n, db, power)
+    watch_read::read_hop(w.source, w.n, db, power)
 }
 
 // The next hop, its dB as read or as worked out from its powers (R-13).
-fn read_hop(
-    source: &Source,
-    s: Settings,
-    n: u16,
-    bits: &mut [u64],
-    powers: &mut [u32],
-    db: &mut [f64],
-    power: &mut [f32],
-) -> Step {
-    let step = read_kept(source, s, n, bits, powers, db, power);
-    if s.is_linear {
+fn read_hop(w: Watched, p: &mut Patterns, db: &mut [f64], power: &mut [f32]) -> Step {
+    let step = read_kept(w, p, db, power);
+    if w.s.is_linear {
         watch_decibels::work_out(db, power);
     }
     step
 }
 
-// Nothing that is watched has as many hops as there are turns.
-fn watch_all(
-    source: &Source,
-    name: &[u8],
-    s: Settings,
-    n: u16,
-    bank: &mut [u16],
-    bank_f: &mut [f64],
-    worst: &mut [u16],
-    worst_f: &mut [f64],
-    gate: &mut [u16],
-    gate_f: &mut [f64],
-    bits: &mut [u64],
-    powers: &mut [u32],
+// The next hop, read and heard.
+fn hear_next(
+    w: Watched,
+    stores: &mut Stores,
+    patterns: &mut Patterns,
     db: &mut [f64],
     power: &mut [f32],
     rise: &mut [u8],
     drop: &mut [u8],
-    alive: &mut [u8],
-    alive_hops: &mut [u64],
-    events: &mut [u8],
-    rises: &mut [u64],
+) -> Result<usize, Stop> {
+    let step = read_hop(w, patterns, db, power);
+    hear(
+        step,
+        w.s.worst.is_some(),
+        stores.bank,
+        stores.bank_f,
+        stores.worst,
+        stores.worst_f,
+        stores.gate,
+        stores.gate_f,
+        db,
+        power,
+        rise,
+        drop,
+    )
+}
+
+// Nothing that is watched has as many hops as there are turns.
+fn watch_all(
+    w: Watched,
+    stores: &mut Stores,
+    patterns: &mut Patterns,
+    db: &mut [f64],
+    power: &mut [f32],
+    rise: &mut [u8],
+    drop: &mut [u8],
+    kept: &mut Kept,
 ) {
     let mut place = watch_recording::first_place();
-    let mut turns = u64::MAX;
-    while turns > 0 && place.is_on {
-        let before = explanation_before(s, bank, bank_f);
-        let step = read_hop(source, s, n, bits, powers, db, power);
-        let heard = hear(
-            step,
-            s.worst > 0,
-            bank,
-            bank_f,
-            worst,
-            worst_f,
-            gate,
-            gate_f,
-            db,
-            power,
-            rise,
-            drop,
-        );
+    for _ in 0..u64::MAX {
+        if !place.is_on {
+            break;
+        }
+        let before = explanation_before(w.s, stores);
+        let heard = hear_next(w, stores, patterns, db, power, rise, drop);
+        let hop = Marked {
+            db: &*db,
+            rise: &*rise,
+            drop: &*drop,
+        };
         place = follow(
-            source, name, s, place, heard, before, bank, bank_f, worst, worst_f, gate, gate_f, db,
-            rise, drop, alive, alive_hops, events, rises,
+            w,
+            place,
+            heard,
+            before,
+            stores,
+            hop,
+            kept.alive,
+            kept.alive_hops,
+            kept.events,
+            kept.rises,
         );
-        turns -= 1;
     }
-    tail::print_tail(
-        s, place.hop, bank, bank_f, worst, worst_f, alive, alive_hops, rises,
-    );
+    print_tail(w.s, place.hop, stores, kept);
 }

@@ -1,6 +1,8 @@
 -- Which channels are alive, and for how long.
-use Rattle.std.specs.Prelude.{ℕ, ◌+◌, ◌%◌, ◌^◌, Bool, true, false, cond, not, ◌||◌, List, length, ◌==◌, bit_or, slice_index}
+use Rattle.std.specs.Prelude.{ℕ, ◌+◌, ◌%◌, ◌^◌, Bool, true, false, cond, not, ◌||◌, List, length, ◌==◌, bit_or, slice_index, Option, Some, None}
 use Rattle.laws.specs.Lists.{tab, one}
+use Rattle.watch_states.specs.declared.Change.{Change}
+use Rattle.watch_states.specs.declared.Change.TheVariants as C
 
 -- an idle channel with a rise mark becomes alive; an alive one with a drop mark and no rise mark becomes idle
 abbrev pub state_after : Bool → Bool → Bool → Bool
@@ -21,6 +23,12 @@ abbrev pub change_of : Bool → Bool → ℕ
 change_of false will = one will
 change_of true true = 0
 change_of true false = 2
+
+-- a change by its bit, and 0 where there is none
+abbrev pub noted_of : Option Change → ℕ
+noted_of None = 0
+noted_of (Some C.Rise) = 1
+noted_of (Some C.Drop) = 2
 
 -- what the marks of a hop change of channel k
 abbrev pub change_at : List ℕ → List ℕ → List ℕ → ℕ → ℕ

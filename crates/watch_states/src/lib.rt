@@ -1,54 +1,48 @@
-// Which channels are alive. Marks and states are bytes, 1 where set, as the gate writes its marks.
+// Which channels are alive. Marks and states are bytes, 1 where set, as the gate writes its marks: one function reads both.
 #![tactic(auto)]
 
 ghost use Rattle.std.specs.Prelude.{◌≡◌, length, slice_index};
-ghost use Rattle.laws.specs.Lists.{tab, one};
-ghost use Rattle.watch_states.specs.States.{state_after, states_after, counts_after, change_of, change_at, rises_after, events_after, hop_closed, is_set};
+ghost use Rattle.laws.specs.Lists.{tab};
+ghost use Rattle.watch_states.specs.States.{state_after, states_after, counts_after, change_of, change_at, rises_after, events_after, hop_closed, is_set, noted_of};
 
-use std::num::wrapping_add_u64;
+// What a hop can make of a channel.
+#[derive(Clone, Copy, Debug, PartialEq, Eq)]
+pub enum Change {
+    Rise,
+    Drop,
+}
 
 // An idle channel with a rise mark becomes alive; an alive one with a drop mark and no rise mark becomes idle.
 pub fn state_after(is_alive: bool, is_rise: bool, is_drop: bool) -> bool
     ensures { result ≡ state_after is_alive is_rise is_drop }
 {
-    if is_alive {
-        return is_rise || !is_drop;
-    }
-    is_rise
+    is_rise || is_alive && !is_drop
 }
 
 pub fn is_set(marks: &[u8], k: usize) -> bool
     ensures { result ≡ is_set marks.now k }
 {
-    if k >= marks.len() {
-        return false;
-    }
-    marks[k] == 1
-}
-
-fn bit(is_on: bool) -> u8
-    ensures { result ≡ one is_on }
-{
-    if is_on { 1 } else { 0 }
+    k < marks.len() && marks[k] == 1
 }
 
 // The states after the marks of a hop.
 pub fn step_states(alive: &mut [u8], rise: &[u8], drop: &[u8])
     ensures { alive.new ≡ states_after alive.old rise.now drop.now }
 {
-    for k in 0..alive.len() {
-        alive[k] = bit(state_after(alive[k] == 1, is_set(rise, k), is_set(drop, k)));
+    for (k, state) in alive.iter_mut().enumerate() {
+        *state = u8::from(state_after(*state == 1, is_set(rise, k), is_set(drop, k)));
     }
 }
 
-// What a hop changes: 1 where a channel comes alive, 2 where it becomes idle, else 0.
-fn change(is_alive: bool, will_be: bool) -> u8
-    ensures { result ≡ change_of is_alive will_be }
+// What a hop changes of a channel that was alive or not, and will be or not.
+fn change_between(is_alive: bool, will_be: bool) -> Option<Change>
+    ensures { noted_of result ≡ change_of is_alive will_be }
 {
-    if is_alive {
-        return if will_be { 0 } else { 2 };
+    match (is_alive, will_be) {
+        (false, true) => Some(Change::Rise),
+        (true, false) => Some(Change::Drop),
+        _ => None,
     }
-    bit(will_be)
 }
 
 // The state of channel k after the marks of a hop.
@@ -59,62 +53,67 @@ pub fn next_state(alive: &[u8], rise: &[u8], drop: &[u8], k: usize) -> bool
 }
 
 // What the marks of a hop change of channel k.
-pub fn change_at(alive: &[u8], rise: &[u8], drop: &[u8], k: usize) -> u8
-    ensures { result ≡ change_at alive.now rise.now drop.now k }
+pub fn change_at(alive: &[u8], rise: &[u8], drop: &[u8], k: usize) -> Option<Change>
+    ensures { noted_of result ≡ change_at alive.now rise.now drop.now k }
 {
-    change(is_set(alive, k), next_state(alive, rise, drop, k))
+    change_between(is_set(alive, k), next_state(alive, rise, drop, k))
+}
+
+// A change as it is noted among others, by its bit.
+fn noted(change: Option<Change>) -> u8
+    ensures { result ≡ noted_of change }
+{
+    match change {
+        None => 0,
+        Some(Change::Rise) => 1,
+        Some(Change::Drop) => 2,
+    }
 }
 
 // One more where a mark is set: hops alive, or rises.
 pub fn count_set(counts: &mut [u64], marks: &[u8])
     ensures { counts.new ≡ counts_after counts.old marks.now }
 {
-    for k in 0..counts.len() {
-        counts[k] = wrapping_add_u64(counts[k], bit(is_set(marks, k)) as u64);
+    for (k, count) in counts.iter_mut().enumerate() {
+        *count = count.wrapping_add(u64::from(is_set(marks, k)));
     }
 }
 
 pub fn mark_at(marks: &[u8], k: usize) -> u8
     ensures { result ≡ slice_index marks.now k }
 {
-    if k >= marks.len() {
-        return 0;
-    }
-    marks[k]
+    marks.get(k).copied().unwrap_or(0)
 }
 
 pub fn count_at(counts: &[u64], k: usize) -> u64
     ensures { result ≡ slice_index counts.now k }
 {
-    if k >= counts.len() {
-        return 0;
-    }
-    counts[k]
+    counts.get(k).copied().unwrap_or(0)
 }
 
 // One more for each channel that comes alive.
 pub fn count_rises(counts: &mut [u64], alive: &[u8], rise: &[u8], drop: &[u8])
     ensures { counts.new ≡ rises_after counts.old alive.now rise.now drop.now }
 {
-    for k in 0..counts.len() {
-        counts[k] = wrapping_add_u64(counts[k], bit(change_at(alive, rise, drop, k) == 1) as u64);
+    for (k, count) in counts.iter_mut().enumerate() {
+        *count = count.wrapping_add(u64::from(noted(change_at(alive, rise, drop, k)) == 1));
     }
 }
 
-// Changes are kept, bit by bit, until the next slow hop.
+// Changes are kept, bit by bit, until the next slow hop. A byte holds the set of them.
 pub fn add_events(events: &mut [u8], alive: &[u8], rise: &[u8], drop: &[u8])
     ensures { events.new ≡ events_after events.old alive.now rise.now drop.now }
 {
-    for k in 0..events.len() {
-        events[k] = events[k] | change_at(alive, rise, drop, k);
+    for (k, event) in events.iter_mut().enumerate() {
+        *event |= noted(change_at(alive, rise, drop, k));
     }
 }
 
 pub fn clear(events: &mut [u8])
     ensures { events.new ≡ tab (length events.old) (λ _. 0) }
 {
-    for k in 0..events.len() {
-        events[k] = 0;
+    for event in events.iter_mut() {
+        *event = 0;
     }
 }
 

@@ -2,13 +2,26 @@
 #![tactic(auto)]
 
 ghost use Rattle.std.specs.Prelude.{◌≡◌};
+ghost use Rattle.refusals.specs.Numbers.{answer};
 ghost use Rattle.watch_stores.specs.Made.{made, worst_made};
 
-use laws::wide;
-use watch_levels::signed;
+use refusals::Refusal;
+use watch_levels::{early_signed, signed};
 use watch_words::Settings;
 
-// A fresh bank and a fresh gate: 0, or the number of the refusal.
+// The stores of a bank, of the worst floor of late and of a gate, lent together. Where a function says what it makes of them it takes the slices:
+// behind a struct its clause would read stores.new.bank.now for bank.new.
+#[derive(Drop)]
+pub struct Stores<'a> {
+    pub bank: &'a mut [u16],
+    pub bank_f: &'a mut [f64],
+    pub worst: &'a mut [u16],
+    pub worst_f: &'a mut [f64],
+    pub gate: &'a mut [u16],
+    pub gate_f: &'a mut [f64],
+}
+
+// A fresh bank and a fresh gate.
 pub fn make(
     s: Settings,
     lengths: &[u16],
@@ -17,30 +30,34 @@ pub fn make(
     bank_f: &mut [f64],
     gate: &mut [u16],
     gate_f: &mut [f64],
-) -> u16
-    ensures { (result, bank.new, bank_f.new, gate.new, gate_f.new) ≡ made s lengths.now n bank.old bank_f.old gate.old gate_f.old }
+) -> Result<(), Refusal>
+    ensures { (answer result, bank.new, bank_f.new, gate.new, gate_f.new) ≡ made s lengths.now n bank.old bank_f.old gate.old gate_f.old }
 {
-    let no = bank_making::bank_new(bank, bank_f, wide(n));
-    if no != 0 {
-        return no;
-    }
+    let channels = usize::from(n);
+    bank_making::bank_new(bank, bank_f, channels)?;
     gate_making::gate_new(
         gate,
         gate_f,
-        wide(n),
+        channels,
         signed(s.on),
         signed(s.off),
-        signed(s.early),
+        early_signed(s.early),
         lengths,
     )
 }
 
-// Beside them a fresh store of the worst floor of late, where it is to be kept: likewise.
-pub fn make_worst(s: Settings, n: u16, worst: &mut [u16], worst_f: &mut [f64]) -> u16
-    ensures { (result, worst.new, worst_f.new) ≡ worst_made s.worst n worst.old worst_f.old }
+// Beside them a fresh store of the worst floor of late, where it is to be kept.
+#[tactic(auto, unfolding(crate::specs::Made::worst_made))]
+pub fn make_worst(
+    s: Settings,
+    n: u16,
+    worst: &mut [u16],
+    worst_f: &mut [f64],
+) -> Result<(), Refusal>
+    ensures { (answer result, worst.new, worst_f.new) ≡ worst_made s.worst n worst.old worst_f.old }
 {
-    if s.worst == 0 {
-        return 0;
+    match s.worst {
+        Some(span) => worst_store::worst_new(worst, worst_f, usize::from(n), span),
+        None => Ok(()),
     }
-    worst_store::worst_new(worst, worst_f, wide(n), s.worst)
 }

@@ -2,10 +2,14 @@
 use Rattle.std.specs.Prelude.{Bool, true, false, cond, ◌&&◌, ℕ, zero, suc, ◌+◌, ◌*◌, ◌-◌, ◌/◌, ◌%◌, ltb, length, set}
 use mathlib.Core.List.{List, [], ◌∷◌, ◌++◌, foldl}
 use Rattle.laws.specs.Texts.{ascii}
+use Rattle.watch_text.specs.declared.buffer.Line.{Line}
 
 -- a line that is being written, and how much of it is
 abbrev pub Written : Type 0
 Written = List ℕ × ℕ
+
+abbrev pub written : Line → Written
+written l = (l.bytes, l.end)
 
 -- a byte more, where there is room
 unfoldable pub put_byte : Written → ℕ → Written

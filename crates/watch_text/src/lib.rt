@@ -1,141 +1,139 @@
 // Lines of text, and numbers as people read them.
 #![tactic(auto)]
 
-ghost use Rattle.std.specs.Prelude.{◌≡◌, false, ◌&&◌, ◌-◌, ltb, length};
-ghost use Rattle.laws.specs.Lists.{one};
-ghost use Rattle.watch_text.specs.Text.{put_byte, put_all, spaces, right, decimal, sign, whole, hundredths, thousandths};
+pub mod buffer;
+
+ghost use Rattle.std.specs.Prelude.{◌≡◌, false, ◌&&◌, ◌++◌, ltb, take};
+ghost use Rattle.laws.specs.Lists.{tab};
+ghost use Rattle.watch_text.specs.Text.{written, put_byte, put_all, spaces, right, decimal, sign, whole, hundredths, thousandths};
 ghost use Rattle.watch_text.specs.Text.{glyph as text_glyph, millis as text_millis};
 
-// A line that is being written: what is beyond its end is left out.
-pub const LINE: usize = 200;
+pub use buffer::Line;
+use buffer::MOST;
 
-// Writes a byte at `at`, and answers where the next one goes.
-pub fn put(line: &mut [u8; LINE], at: usize, b: u8) -> usize
-    ensures { (line.new, result) ≡ put_byte (line.old, at) b }
-{
-    if at >= LINE {
-        return at;
+impl Line {
+    pub fn new() -> Line
+        ensures { written result ≡ (tab 200 (λ _. 0), 0) }
+    {
+        Line {
+            bytes: [0; MOST],
+            end: 0,
+        }
     }
-    line[at] = b;
-    at + 1
+
+    // The line as far as it is written.
+    pub fn text(&self) -> &[u8]
+        ensures { result.now ≡ take self.now.end self.now.bytes }
+    {
+        &self.bytes[..self.end]
+    }
 }
 
-pub fn put_text(line: &mut [u8; LINE], at: usize, text: &[u8]) -> usize
-    ensures { (line.new, result) ≡ put_all (line.old, at) text.now }
+// A byte more, where there is room.
+#[tactic(auto, unfolding(crate::specs::Text::put_byte))]
+pub fn put(line: &mut Line, b: u8)
+    ensures { written line.new ≡ put_byte (written line.old) b }
 {
-    let mut end = at;
-    for i in 0..text.len() {
-        end = put(line, end, text[i]);
+    if line.end < MOST {
+        line.bytes[line.end] = b;
+        line.end += 1;
     }
-    end
 }
 
-pub fn put_spaces(line: &mut [u8; LINE], at: usize, count: usize) -> usize
-    ensures { (line.new, result) ≡ put_all (line.old, at) (spaces count) }
+pub fn put_text(line: &mut Line, text: &[u8])
+    ensures { written line.new ≡ put_all (written line.old) text.now }
 {
-    let mut end = at;
-    for i in 0..count {
-        end = put(line, end, b' ');
+    for b in text {
+        put(line, *b);
     }
-    end
 }
 
-// What is missing to a width.
-pub fn missing(width: usize, len: usize) -> usize
-    ensures { result ≡ width - len }
+pub fn put_spaces(line: &mut Line, count: usize)
+    ensures { written line.new ≡ put_all (written line.old) (spaces count) }
 {
-    if len < width {
-        return width - len;
+    for _ in 0..count {
+        put(line, b' ');
     }
-    0
 }
 
 // Text at the right of a column.
-pub fn put_right(line: &mut [u8; LINE], at: usize, text: &[u8], width: usize) -> usize
-    ensures { (line.new, result) ≡ put_all (line.old, at) (right width text.now) }
+pub fn put_right(line: &mut Line, text: &[u8], width: usize)
+    ensures { written line.new ≡ put_all (written line.old) (right width text.now) }
 {
-    let start = put_spaces(line, at, missing(width, text.len()));
-    put_text(line, start, text)
+    put_spaces(line, width.saturating_sub(text.len()));
+    put_text(line, text);
 }
 
 // A whole number at the right of a column.
-pub fn put_number(line: &mut [u8; LINE], at: usize, x: u64, width: usize) -> usize
-    ensures { (line.new, result) ≡ put_all (line.old, at) (right width (decimal x)) }
+pub fn put_number(line: &mut Line, x: u64, width: usize)
+    ensures { written line.new ≡ put_all (written line.old) (right width (decimal x)) }
 {
     let mut digits = [0u8; 20];
     let k = io::decimal(x, &mut digits);
-    put_right(line, at, &digits[..k], width)
+    put_right(line, &digits[..k], width);
 }
 
 pub fn glyph(digit: u64) -> u8
     ensures { result ≡ text_glyph digit }
 {
+    // What is cut to fewer bits here fits in them, which is proved.
     b'0' + (digit % 10) as u8
 }
 
-fn sign_len(is_below: bool) -> usize
-    ensures { result ≡ one is_below }
-{
-    if is_below { 1 } else { 0 }
-}
-
-fn put_sign(line: &mut [u8; LINE], at: usize, is_below: bool) -> usize
-    ensures { (line.new, result) ≡ put_all (line.old, at) (sign is_below) }
+#[tactic(auto, unfolding(crate::specs::Text::put_all))]
+fn put_sign(line: &mut Line, is_below: bool)
+    ensures { written line.new ≡ put_all (written line.old) (sign is_below) }
 {
     if is_below {
-        return put(line, at, b'-');
+        put(line, b'-');
     }
-    at
 }
 
 // A whole number with its sign, at the right of a column.
-fn put_whole(line: &mut [u8; LINE], at: usize, is_below: bool, x: u64, width: usize) -> usize
-    ensures { (line.new, result) ≡ put_all (line.old, at) (right width (whole is_below x)) }
+fn put_whole(line: &mut Line, is_below: bool, x: u64, width: usize)
+    ensures { written line.new ≡ put_all (written line.old) (right width (whole is_below x)) }
 {
     let mut digits = [0u8; 20];
     let k = io::decimal(x, &mut digits);
-    let room = missing(missing(width, k), sign_len(is_below));
-    let start = put_spaces(line, at, room);
-    let end = put_sign(line, start, is_below);
-    put_text(line, end, &digits[..k])
+    let room = width
+        .saturating_sub(k)
+        .saturating_sub(usize::from(is_below));
+    put_spaces(line, room);
+    put_sign(line, is_below);
+    put_text(line, &digits[..k]);
 }
 
 // Nothing below zero is written as -0.
 fn has_sign(is_below: bool, x: u64) -> bool
     ensures { result ≡ (is_below && ltb 0 x) }
 {
-    if is_below {
-        return x > 0;
-    }
-    false
+    is_below && x > 0
+}
+
+// A whole number with its sign and its decimals behind it.
+fn put_parts(line: &mut Line, is_below: bool, x: u64, decimals: &[u8], width: usize)
+    ensures { written line.new ≡ put_all (written line.old) (right width (whole is_below x ++ decimals.now)) }
+{
+    put_whole(line, is_below, x, width.saturating_sub(decimals.len()));
+    put_text(line, decimals);
 }
 
 // Hundredths, with two decimals.
-pub fn put_hundredths(
-    line: &mut [u8; LINE],
-    at: usize,
-    is_below: bool,
-    x: u64,
-    width: usize,
-) -> usize
-    ensures { (line.new, result) ≡ put_all (line.old, at) (right width (hundredths is_below x)) }
+#[tactic(auto, unfolding(crate::specs::Text::hundredths))]
+pub fn put_hundredths(line: &mut Line, is_below: bool, x: u64, width: usize)
+    ensures { written line.new ≡ put_all (written line.old) (right width (hundredths is_below x)) }
 {
-    let end = put_whole(line, at, has_sign(is_below, x), x / 100, missing(width, 3));
-    put_text(line, end, &[b'.', glyph(x / 10), glyph(x)])
+    let decimals = [b'.', glyph(x / 10), glyph(x)];
+    put_parts(line, has_sign(is_below, x), x / 100, &decimals, width);
 }
 
 // Thousandths, with three decimals.
-pub fn put_thousandths(
-    line: &mut [u8; LINE],
-    at: usize,
-    is_below: bool,
-    x: u64,
-    width: usize,
-) -> usize
-    ensures { (line.new, result) ≡ put_all (line.old, at) (right width (thousandths is_below x)) }
+#[tactic(auto, unfolding(crate::specs::Text::thousandths))]
+pub fn put_thousandths(line: &mut Line, is_below: bool, x: u64, width: usize)
+    ensures { written line.new ≡ put_all (written line.old) (right width (thousandths is_below x)) }
 {
-    let end = put_whole(line, at, has_sign(is_below, x), x / 1000, missing(width, 4));
-    put_text(line, end, &[b'.', glyph(x / 100), glyph(x / 10), glyph(x)])
+    let decimals = [b'.', glyph(x / 100), glyph(x / 10), glyph(x)];
+    put_parts(line, has_sign(is_below, x), x / 1000, &decimals, width);
 }
 
 // Hops in thousandths of a second, 375 hops to the second, rounded down.
@@ -146,8 +144,8 @@ pub fn millis(hop: u64) -> u64
 }
 
 // Hops as seconds.
-pub fn put_seconds(line: &mut [u8; LINE], at: usize, hop: u64, width: usize) -> usize
-    ensures { (line.new, result) ≡ put_all (line.old, at) (right width (thousandths false (text_millis hop))) }
+pub fn put_seconds(line: &mut Line, hop: u64, width: usize)
+    ensures { written line.new ≡ put_all (written line.old) (right width (thousandths false (text_millis hop))) }
 {
-    put_thousandths(line, at, false, millis(hop), width)
+    put_thousandths(line, false, millis(hop), width);
 }

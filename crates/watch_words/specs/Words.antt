@@ -1,14 +1,16 @@
 -- The words of the command line: which word is which option, and what each makes of the settings.
-use Rattle.std.specs.Prelude.{Bool, true, false, not, cond, ◌&&◌, List, [], ◌∷◌, ℕ, eqb, ltb, length, get_or}
+use Rattle.std.specs.Prelude.{Bool, true, false, cond, List, [], ◌∷◌, ℕ, eqb, ltb, length, get_or, Option, Some, None}
 use Rattle.laws.specs.Texts.{ascii, same_bytes}
 use Rattle.watch_levels.specs.declared.Level.{Level}
-use Rattle.watch_levels.specs.declared.LevelWord.{LevelWord}
-use Rattle.watch_levels.specs.declared.LevelWord.TheVariants.{Is, Wrong}
-use Rattle.watch_levels.specs.Levels.{level, no_level, level_of}
+use Rattle.watch_levels.specs.Levels.{level, level_of}
 use Rattle.watch_lengths.specs.Lengths.{lengths_of}
 use Rattle.watch_numbers.specs.Numbers.{channel_of, span_of}
 use Rattle.watch_words.specs.declared.Word.{Word}
-use Rattle.watch_words.specs.declared.Word.TheVariants.{Help, Csv, Reference, Log, Linear, On, Off, Early, Lengths, Explain, Worst, Unknown, File}
+use Rattle.watch_words.specs.declared.Word.TheVariants.{Help, Csv, Reference, Log, Linear, Valued, Unknown, File}
+use Rattle.watch_words.specs.declared.Value.{Value}
+use Rattle.watch_words.specs.declared.Value.TheVariants as V
+use Rattle.watch_words.specs.declared.Fault.{Fault}
+use Rattle.watch_words.specs.declared.Fault.TheVariants as F
 use Rattle.watch_words.specs.declared.Settings.{Settings}
 
 -- the options by their names
@@ -20,12 +22,12 @@ options =
     ∷ (ascii "--reference", Reference)
     ∷ (ascii "--log", Log)
     ∷ (ascii "--linear", Linear)
-    ∷ (ascii "--on", On)
-    ∷ (ascii "--off", Off)
-    ∷ (ascii "--early", Early)
-    ∷ (ascii "--lengths", Lengths)
-    ∷ (ascii "--explain", Explain)
-    ∷ (ascii "--worst", Worst)
+    ∷ (ascii "--on", Valued V.On)
+    ∷ (ascii "--off", Valued V.Off)
+    ∷ (ascii "--early", Valued V.Early)
+    ∷ (ascii "--lengths", Valued V.Lengths)
+    ∷ (ascii "--explain", Valued V.Explain)
+    ∷ (ascii "--worst", Valued V.Worst)
     ∷ []
 
 unfoldable pub named : List ℕ → List (List ℕ × Word) → Word
@@ -36,71 +38,24 @@ named w (o ∷ os) = cond (same_bytes w o.0) o.1 (named w os)
 unfoldable pub word_of : List ℕ → Word
 word_of w = cond (ltb (length w) 2) File (cond (eqb (get_or w 0 0) 45) (named w options) File)
 
--- what is due next: any word, or the value of an option
-abbrev pub any : ℕ
-any = 0
-
-abbrev pub on_value : ℕ
-on_value = 1
-
-abbrev pub off_value : ℕ
-off_value = 2
-
-abbrev pub early_value : ℕ
-early_value = 3
-
-abbrev pub lengths_value : ℕ
-lengths_value = 4
-
-abbrev pub explain_value : ℕ
-explain_value = 5
-
-abbrev pub worst_value : ℕ
-worst_value = 6
-
--- what is wrong with a word
-abbrev pub no_fault : ℕ
-no_fault = 0
-
-abbrev pub unknown : ℕ
-unknown = 1
-
-abbrev pub bad_level : ℕ
-bad_level = 2
-
-abbrev pub bad_lengths : ℕ
-bad_lengths = 3
-
-abbrev pub no_value : ℕ
-no_value = 4
-
-abbrev pub second_file : ℕ
-second_file = 5
-
-abbrev pub bad_channel : ℕ
-bad_channel = 7
-
-abbrev pub bad_span : ℕ
-bad_span = 8
-
 -- on at 9 dB, off at 6 dB, in eighths; no early level; three lengths
 abbrev pub defaults : Settings
 defaults =
     record {
       on = level false 72;
       off = level false 48;
-      early = no_level;
+      early = None;
       lengths = 3;
       is_csv = false;
       has_reference = false;
       is_help = false;
       is_log = false;
       is_linear = false;
-      file = 0;
-      explained = 0;
-      worst = 0;
-      due = any;
-      fault = no_fault;
+      file = None;
+      explained = None;
+      worst = None;
+      due = None;
+      fault = None;
       word = 0;
     }
 
@@ -108,7 +63,7 @@ abbrev pub default_lengths : List ℕ
 default_lengths = 15 ∷ 75 ∷ 375 ∷ 0 ∷ 0 ∷ 0 ∷ 0 ∷ 0 ∷ []
 
 -- settings with other values: none is due any more
-abbrev pub valued : Settings → Level → Level → Level → ℕ → Settings
+abbrev pub valued : Settings → Level → Level → Option Level → ℕ → Settings
 valued s a b e n =
     record {
       on = a;
@@ -123,13 +78,13 @@ valued s a b e n =
       file = s.file;
       explained = s.explained;
       worst = s.worst;
-      due = any;
+      due = None;
       fault = s.fault;
       word = s.word;
     }
 
 -- settings that ask for other things
-abbrev pub asking : Settings → Bool → Bool → Bool → Bool → Bool → ℕ → Settings
+abbrev pub asking : Settings → Bool → Bool → Bool → Bool → Bool → Option ℕ → Settings
 asking s csv reference help log linear i =
     record {
       on = s.on;
@@ -150,7 +105,7 @@ asking s csv reference help log linear i =
     }
 
 -- settings of which word i says what is due or wrong
-abbrev pub noted : Settings → ℕ → ℕ → ℕ → Settings
+abbrev pub noted : Settings → Option Value → Option Fault → ℕ → Settings
 noted s d f i =
     record {
       on = s.on;
@@ -170,8 +125,8 @@ noted s d f i =
       word = i;
     }
 
--- settings by which a channel's floors are explained, its number with 1 added, and the worst floor of so many slow hops is kept
-abbrev pub telling : Settings → ℕ → ℕ → Settings
+-- settings by which a channel's floors are explained, and the worst floor of so many slow hops is kept
+abbrev pub telling : Settings → Option ℕ → Option ℕ → Settings
 telling s v w =
     record {
       on = s.on;
@@ -186,24 +141,24 @@ telling s v w =
       file = s.file;
       explained = v;
       worst = w;
-      due = any;
+      due = None;
       fault = s.fault;
       word = s.word;
     }
 
 abbrev pub explaining : Settings → ℕ → Settings
-explaining s v = telling s v s.worst
+explaining s v = telling s (Some v) s.worst
 
 abbrev pub spanning : Settings → ℕ → Settings
-spanning s w = telling s s.explained w
+spanning s w = telling s s.explained (Some w)
 
 -- word i has this fault
-abbrev pub faulty : Settings → ℕ → ℕ → Settings
-faulty s f i = noted s s.due f i
+abbrev pub faulty : Settings → Fault → ℕ → Settings
+faulty s f i = noted s s.due (Some f) i
 
 -- word i is an option whose value is due
-abbrev pub awaiting : Settings → ℕ → ℕ → Settings
-awaiting s d i = noted s d s.fault i
+abbrev pub awaiting : Settings → Value → ℕ → Settings
+awaiting s v i = noted s (Some v) s.fault i
 
 -- what is to be printed
 abbrev pub printing : Settings → Bool → Bool → Bool → Settings
@@ -211,7 +166,7 @@ printing s csv reference help = asking s csv reference help s.is_log s.is_linear
 
 -- the file is word i
 abbrev pub filed : Settings → ℕ → Settings
-filed s i = asking s s.is_csv s.has_reference s.is_help s.is_log s.is_linear i
+filed s i = asking s s.is_csv s.has_reference s.is_help s.is_log s.is_linear (Some i)
 
 -- what is watched is a hop log
 abbrev pub logged : Settings → Settings
@@ -221,15 +176,19 @@ logged s = asking s s.is_csv s.has_reference s.is_help true s.is_linear s.file
 abbrev pub linearly : Settings → Settings
 linearly s = asking s s.is_csv s.has_reference s.is_help s.is_log true s.file
 
-abbrev pub levelled : Settings → Level → Level → Level → Settings
+abbrev pub levelled : Settings → Level → Level → Option Level → Settings
 levelled s a b e = valued s a b e s.lengths
 
 abbrev pub counting : Settings → ℕ → Settings
 counting s n = valued s s.on s.off s.early n
 
 -- a second file is a fault
+abbrev pub filed_after : Option ℕ → Settings → ℕ → Settings
+filed_after None s i = filed s i
+filed_after (Some f) s i = faulty s F.SecondFile i
+
 unfoldable pub with_file : Settings → ℕ → Settings
-with_file s i = cond (eqb s.file 0) (filed s i) (faulty s second_file i)
+with_file s i = filed_after s.file s i
 
 -- word i where any word may stand
 unfoldable pub any_taken : Settings → ℕ → Word → Settings
@@ -238,52 +197,56 @@ any_taken s i Csv = printing s true s.has_reference s.is_help
 any_taken s i Reference = printing s s.is_csv true s.is_help
 any_taken s i Log = logged s
 any_taken s i Linear = linearly s
-any_taken s i On = awaiting s on_value i
-any_taken s i Off = awaiting s off_value i
-any_taken s i Early = awaiting s early_value i
-any_taken s i Lengths = awaiting s lengths_value i
-any_taken s i Explain = awaiting s explain_value i
-any_taken s i Worst = awaiting s worst_value i
-any_taken s i Unknown = faulty s unknown i
+any_taken s i (Valued v) = awaiting s v i
+any_taken s i Unknown = faulty s F.Unknown i
 any_taken s i File = with_file s i
 
--- a level goes where it is due
-unfoldable pub with_level : Settings → Level → Settings
-with_level s l =
-    cond (eqb s.due on_value) (levelled s l s.off s.early)
-    (cond (eqb s.due off_value) (levelled s s.on l s.early)
-    (levelled s s.on s.off l))
+-- what is wrong with a word that is no such value
+abbrev pub bad : Value → Fault
+bad V.On = F.BadLevel
+bad V.Off = F.BadLevel
+bad V.Early = F.BadLevel
+bad V.Lengths = F.BadLengths
+bad V.Explain = F.BadChannel
+bad V.Worst = F.BadSpan
 
-unfoldable pub read_level : Settings → ℕ → LevelWord → Settings
-read_level s i (Is l) = with_level s l
-read_level s i Wrong = faulty s bad_level i
+-- the settings that a value makes, if there is one
+abbrev pub made : {A : Type 0} → (A → Settings) → Option A → Option Settings
+made f (Some x) = Some (f x)
+made f None = None
 
--- an early level may be none
-unfoldable pub level_taken : Settings → ℕ → List ℕ → Settings
-level_taken s i w = cond (eqb s.due early_value && same_bytes w (ascii "none")) (with_level s no_level) (read_level s i (level_of w))
+-- the lengths, and the settings with the value that a word is, if it is one: a level goes where it is due, an early level may be none, and a
+-- list of lengths may leave something of itself
+unfoldable pub value_read : Value → List ℕ → Settings → List ℕ → List ℕ × Option Settings
+value_read V.On l s w = (l, made (λ x. levelled s x s.off s.early) (level_of w))
+value_read V.Off l s w = (l, made (λ x. levelled s s.on x s.early) (level_of w))
+value_read V.Early l s w =
+    (l, cond (same_bytes w (ascii "none")) (Some (levelled s s.on s.off None)) (made (λ x. levelled s s.on s.off (Some x)) (level_of w)))
+value_read V.Lengths l s w = let p = lengths_of w l in (p.0, made (counting s) p.1)
+value_read V.Explain l s w = (l, made (explaining s) (channel_of w))
+value_read V.Worst l s w = (l, made (spanning s) (span_of w))
 
--- a list of lengths: what it leaves of them, and how many there are
-unfoldable pub lengths_taken : Settings → ℕ → List ℕ × ℕ → List ℕ × Settings
-lengths_taken s i p = (p.0, cond (eqb p.1 0) (faulty s bad_lengths i) (counting s p.1))
+abbrev pub or_faulty : Settings → Fault → ℕ → Option Settings → Settings
+or_faulty s f i (Some t) = t
+or_faulty s f i None = faulty s f i
 
--- a channel's number, with 1 added; 0 is none
-unfoldable pub channel_taken : Settings → ℕ → ℕ → Settings
-channel_taken s i v = cond (eqb v 0) (faulty s bad_channel i) (explaining s v)
-
--- a span of slow hops; 0 is none
-unfoldable pub span_taken : Settings → ℕ → ℕ → Settings
-span_taken s i w = cond (eqb w 0) (faulty s bad_span i) (spanning s w)
+unfoldable pub value_taken : Value → List ℕ → Settings → ℕ → List ℕ → List ℕ × Settings
+value_taken v l s i w = let r = value_read v l s w in (r.0, or_faulty s (bad v) i r.1)
 
 -- the lengths and the settings after word i. After a fault nothing changes any more
+abbrev pub taken_when : Option Fault → Option Value → List ℕ → Settings → ℕ → List ℕ → List ℕ × Settings
+taken_when (Some f) d l s i w = (l, s)
+taken_when None None l s i w = (l, any_taken s i (word_of w))
+taken_when None (Some v) l s i w = value_taken v l s i w
+
 unfoldable pub word_taken : List ℕ × Settings → ℕ → List ℕ → List ℕ × Settings
-word_taken (l, s) i w =
-    cond (eqb s.fault no_fault)
-    (cond (eqb s.due any) (l, any_taken s i (word_of w))
-    (cond (eqb s.due lengths_value) (lengths_taken s i (lengths_of w l))
-    (cond (eqb s.due explain_value) (l, channel_taken s i (channel_of w))
-    (cond (eqb s.due worst_value) (l, span_taken s i (span_of w)) (l, level_taken s i w)))))
-    (l, s)
+word_taken (l, s) i w = taken_when s.fault s.due l s i w
 
 -- after the last word an option may still lack its value
+abbrev pub ended_when : Option Fault → Option Value → Settings → Settings
+ended_when None (Some v) s = faulty s F.NoValue s.word
+ended_when None None s = s
+ended_when (Some f) d s = s
+
 unfoldable pub all_taken : Settings → Settings
-all_taken s = cond (eqb s.fault no_fault && not (eqb s.due any)) (faulty s no_value s.word) s
+all_taken s = ended_when s.fault s.due s

@@ -12,15 +12,15 @@ ghost use Rattle.window_rises.specs.Marking.{marked, sums_rise};
 
 use cursors::Cursor;
 
+// The mark of a channel of which nothing was found to rise.
+const UNMARKED: u8 = 0;
+
 // Channel j is another than k, and its recent sum is strictly larger.
 fn stronger(recent: &[f64], k: usize, j: usize) -> bool
     requires { (k < length recent.now) × (j < length recent.now) }
     ensures { result ≡ stronger recent.now k j }
 {
-    if j == k {
-        return false;
-    }
-    recent[k] < recent[j]
+    j != k && recent[k] < recent[j]
 }
 
 // The remainder of j by n, without a division: j is less than three turns on.
@@ -39,21 +39,16 @@ fn wrapped(j: usize, n: usize) -> usize
 }
 
 // A channel at distance 1 or 2 is stronger: with few channels the way round may lead back to k itself.
+#[tactic(auto, unfolding(model::specs::Windows::beside_stronger))]
 fn beside_stronger(recent: &[f64], k: usize) -> bool
     requires { (k < length recent.now) × (length recent.now ≤ 512) }
     ensures { result ≡ beside_stronger (length recent.now) recent.now k }
 {
     let n = recent.len();
-    if stronger(recent, k, wrapped(k + 2 * n - 2, n)) {
-        return true;
-    }
-    if stronger(recent, k, wrapped(k + 2 * n - 1, n)) {
-        return true;
-    }
-    if stronger(recent, k, wrapped(k + 1, n)) {
-        return true;
-    }
-    stronger(recent, k, wrapped(k + 2, n))
+    stronger(recent, k, wrapped(k + 2 * n - 2, n))
+        || stronger(recent, k, wrapped(k + 2 * n - 1, n))
+        || stronger(recent, k, wrapped(k + 1, n))
+        || stronger(recent, k, wrapped(k + 2, n))
 }
 
 // Both sums of k reach the level, and no channel beside k is stronger.
@@ -61,13 +56,7 @@ fn sums_rise(recent: &[f64], previous: &[f64], k: usize, level: f64) -> bool
     requires { (k < length recent.now) × (length recent.now ≤ 512) × (length previous.now ≡ length recent.now) }
     ensures { result ≡ sums_rise recent.now previous.now k level }
 {
-    if !(recent[k] >= level) {
-        return false;
-    }
-    if !(previous[k] >= level) {
-        return false;
-    }
-    !beside_stronger(recent, k)
+    recent[k] >= level && previous[k] >= level && !beside_stronger(recent, k)
 }
 
 // The channels whose windows are full: those that rise are marked, and a mark that is there stays.
@@ -75,15 +64,10 @@ fn mark_full(recent: &[f64], previous: &[f64], thresholds: &[f64], m: f64, rise:
     requires { (length recent.now ≡ length rise.old) × (length previous.now ≡ length rise.old) × (length thresholds.now ≡ length rise.old) × (length rise.old ≤ 512) }
     ensures { rise.new ≡ tab (length rise.old) (λ k. marked (get_or rise.old k 0) (sums_rise recent.now previous.now k (mul binary64 (get_or thresholds.now k f0) m))) }
 {
-    let n = rise.len();
-    let mut k: usize = 0;
-    while k < n {
-        if rise[k] == 0 {
-            if sums_rise(recent, previous, k, thresholds[k] * m) {
-                rise[k] = 1;
-            }
+    for (k, mark) in rise.iter_mut().enumerate() {
+        if *mark == UNMARKED && sums_rise(recent, previous, k, thresholds[k] * m) {
+            *mark = 1;
         }
-        k += 1;
     }
 }
 
@@ -94,8 +78,7 @@ pub fn mark_look(look: &[f64], c: Cursor, thresholds: &[f64], rise: &mut [u8])
 {
     let n = rise.len();
     let m = c.m;
-    let filled = c.filled;
-    if filled != 2 * m {
+    if c.filled != 2 * m {
         return;
     }
     let recent = 2 * m * n;
@@ -105,6 +88,7 @@ pub fn mark_look(look: &[f64], c: Cursor, thresholds: &[f64], rise: &mut [u8])
         &look[recent..previous],
         &look[previous..end],
         thresholds,
+        // No From leads to f64 from so wide a number.
         m as f64,
         rise,
     );

@@ -22,10 +22,8 @@ fn push_look(look: &mut [f64], c: Cursor, samples: &[f64])
     let n = samples.len();
     let recent = 2 * m * n;
     let previous = recent + n;
-    let mut k: usize = 0;
-    while k < n {
+    for (k, &sample) in samples.iter().enumerate() {
         let ring = 2 * m * k;
-        let sample = samples[k];
         let old = look[ring + at];
         let mid = look[ring + middle];
         let p = look[previous + k];
@@ -33,7 +31,6 @@ fn push_look(look: &mut [f64], c: Cursor, samples: &[f64])
         look[previous + k] = p + (mid - old);
         look[recent + k] = r + (sample - mid);
         look[ring + at] = sample;
-        k += 1;
     }
 }
 
@@ -41,13 +38,11 @@ fn push_look(look: &mut [f64], c: Cursor, samples: &[f64])
 fn sum(samples: &[f64]) -> f64
     ensures { result ≡ total f0 samples.now }
 {
-    let mut s = 0.0;
-    let mut i: usize = 0;
-    while i < samples.len() {
-        s = s + samples[i];
-        i += 1;
+    let mut so_far = 0.0;
+    for sample in samples {
+        so_far += *sample;
     }
-    s
+    so_far
 }
 
 // The sums taken afresh from the rings: previous of places 0 to m - 1, recent of m to 2m - 1.
@@ -58,8 +53,7 @@ fn rebase_look(look: &mut [f64], c: Cursor, n: usize)
     let m = c.m;
     let recent = 2 * m * n;
     let previous = recent + n;
-    let mut k: usize = 0;
-    while k < n {
+    for k in 0..n {
         let start = 2 * m * k;
         let middle = start + m;
         let end = middle + m;
@@ -67,7 +61,6 @@ fn rebase_look(look: &mut [f64], c: Cursor, n: usize)
         let r = sum(&look[middle..end]);
         look[previous + k] = p;
         look[recent + k] = r;
-        k += 1;
     }
 }
 
@@ -78,10 +71,8 @@ pub fn step_look(look: &mut [f64], c: Cursor, samples: &[f64]) -> Cursor
 {
     push_look(look, c, samples);
     let next = c.advance();
-    let at = next.at;
-    if at == 0 {
+    if next.at == 0 {
         rebase_look(look, next, samples.len());
-        return next;
     }
     next
 }

@@ -1,4 +1,6 @@
 // The C interface, the row of two antennas (document 02, R-8).
+#![tactic(auto, unfolding(roles::specs::Rights::as_role))]
+
 ghost use Rattle.std.specs.Prelude.{◌≡◌};
 ghost use Rattle.roles.specs.Rights.{log_combine, as_role};
 ghost use Rattle.combine_model.specs.Combined.{combined};
@@ -16,5 +18,5 @@ pub fn wolfcloak_log_combine(
     if !roles::may(roles::LOGGING, role) {
         return roles::STOPPED;
     }
-    log_answers::length_answer(log_combine::log_combine(first, second, log), len)
+    refusals::value_answer(log_combine::log_combine(first, second, log), len)
 }

@@ -1,4 +1,6 @@
 // The C interface, the row of document 02, R-4.
+#![tactic(auto, unfolding(roles::specs::Rights::as_role))]
+
 ghost use Rattle.std.specs.Prelude.{◌≡◌};
 ghost use Rattle.roles.specs.Rights.{explain, as_role};
 ghost use Rattle.origins.specs.Origins.{explained};

@@ -1,9 +1,11 @@
 // The C interface, the gate's rows.
+#![tactic(auto, unfolding(roles::specs::Rights::as_role))]
+
 ghost use Rattle.std.specs.Prelude.{◌≡◌};
 ghost use Rattle.roles.specs.Rights.{gate_new, gate_remake, gate_update, gate_hold, smoothed_db, ema_rise, as_role};
 ghost use Rattle.model.specs.GateCalls.{gate_f_len_for, gate_new_call, gate_update_call, gate_hold_call, smoothed_reading, early_reading};
 ghost use Rattle.model.specs.Remake.{gate_remake_call};
-ghost use Rattle.answers.specs.Answers.{answered};
+ghost use Rattle.refusals.specs.Readings.{answered};
 
 pub fn wolfcloak_gate_f_len(n: usize, lengths: &[u16]) -> usize
     ensures { result ≡ gate_f_len_for n lengths.now }
@@ -26,7 +28,7 @@ pub fn wolfcloak_gate_new(
     if !roles::may(roles::MAKING, role) {
         return roles::STOPPED;
     }
-    gate_making::gate_new(gate, gate_f, n, on, off, early, lengths)
+    refusals::answer(gate_making::gate_new(gate, gate_f, n, on, off, early, lengths))
 }
 
 pub fn wolfcloak_gate_remake(
@@ -42,7 +44,7 @@ pub fn wolfcloak_gate_remake(
     if !roles::may(roles::REMAKING, role) {
         return roles::STOPPED;
     }
-    gate_remake::gate_remake(gate, gate_f, on, off, early)
+    refusals::answer(gate_remake::gate_remake(gate, gate_f, on, off, early))
 }
 
 pub fn wolfcloak_gate_update(
@@ -61,7 +63,7 @@ pub fn wolfcloak_gate_update(
     if !roles::may(roles::UPDATING, role) {
         return roles::STOPPED;
     }
-    gate::gate_update(bank, bank_f, gate, gate_f, power_db, power, rise, drop)
+    refusals::answer(gate::gate_update(bank, bank_f, gate, gate_f, power_db, power, rise, drop))
 }
 
 pub fn wolfcloak_gate_hold(
@@ -78,7 +80,7 @@ pub fn wolfcloak_gate_hold(
     if !roles::may(roles::HOLDING, role) {
         return roles::STOPPED;
     }
-    gate::gate_hold(bank, bank_f, gate, gate_f, rise, drop)
+    refusals::answer(gate::gate_hold(bank, bank_f, gate, gate_f, rise, drop))
 }
 
 pub fn wolfcloak_smoothed_db(
@@ -93,7 +95,7 @@ pub fn wolfcloak_smoothed_db(
     if !roles::may(roles::READING, role) {
         return roles::STOPPED;
     }
-    answers::value_answer(gate_readings::smoothed_db(gate, gate_f, k), value)
+    refusals::value_answer(gate_readings::smoothed_db(gate, gate_f, k), value)
 }
 
 pub fn wolfcloak_ema_rise(
@@ -110,7 +112,7 @@ pub fn wolfcloak_ema_rise(
     if !roles::may(roles::READING, role) {
         return roles::STOPPED;
     }
-    answers::value_answer(
+    refusals::value_answer(
         gate_readings::ema_rise(bank, bank_f, gate, gate_f, k),
         value,
     )

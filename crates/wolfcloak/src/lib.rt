@@ -1,5 +1,5 @@
-// The C interface: each call of the bank, in gate_rows each of the gate, in log_rows each of the hop log, and in a file of its own what a request of document 02 adds, in a form that C can pass; `wolfcloak_c` exports them. An enum, a struct or a returned part is taken apart by `answers` and `log_answers`.
-#![tactic(auto)]
+// The C interface: each call of the bank, in gate_rows each of the gate, in log_rows each of the hop log, and in a file of its own what a request of document 02 adds, in a form that C can pass; `wolfcloak_c` exports them. What is refused, read or none is told by `refusals`, more than one value by `answers`. `as_role` is opened for the check, which finds each row's proof.
+#![tactic(auto, unfolding(roles::specs::Rights::as_role))]
 
 pub mod antenna_rows;
 pub mod explain_row;
@@ -16,7 +16,8 @@ ghost use Rattle.roles.specs.Rights.{bank_new, bank_update, bank_update_holding_
 ghost use Rattle.model.specs.Bank.{hop};
 ghost use Rattle.model.specs.Calls.{bank_len_for, bank_f_len_for, bank_new_call, bank_update_call};
 ghost use Rattle.model.specs.Readings.{raw_reading, effective_reading, rise_reading, reference_reading, floors_reading};
-ghost use Rattle.answers.specs.Answers.{answered, floors_answered, ring_answered};
+ghost use Rattle.refusals.specs.Readings.{answered};
+ghost use Rattle.answers.specs.Answers.{floors_answered, ring_answered};
 
 pub fn wolfcloak_bank_len(n: usize) -> usize
     ensures { result ≡ bank_len_for n }
@@ -36,7 +37,7 @@ pub fn wolfcloak_bank_new(role: u16, bank: &mut [u16], bank_f: &mut [f64], n: us
     if !roles::may(roles::MAKING, role) {
         return roles::STOPPED;
     }
-    bank_making::bank_new(bank, bank_f, n)
+    refusals::answer(bank_making::bank_new(bank, bank_f, n))
 }
 
 pub fn wolfcloak_bank_update(
@@ -51,7 +52,7 @@ pub fn wolfcloak_bank_update(
     if !roles::may(roles::UPDATING, role) {
         return roles::STOPPED;
     }
-    bank::bank_update(bank, bank_f, power_db, power)
+    refusals::answer(bank::bank_update(bank, bank_f, power_db, power))
 }
 
 pub fn wolfcloak_bank_update_holding_reference(
@@ -67,7 +68,13 @@ pub fn wolfcloak_bank_update_holding_reference(
     if !roles::may(roles::UPDATING, role) {
         return roles::STOPPED;
     }
-    bank::bank_update_holding_reference(bank, bank_f, power_db, power, hold_reference)
+    refusals::answer(bank::bank_update_holding_reference(
+        bank,
+        bank_f,
+        power_db,
+        power,
+        hold_reference,
+    ))
 }
 
 pub fn wolfcloak_channel_floor_db(
@@ -82,7 +89,7 @@ pub fn wolfcloak_channel_floor_db(
     if !roles::may(roles::READING, role) {
         return roles::STOPPED;
     }
-    answers::value_answer(readings::channel_floor_db(bank, bank_f, k), value)
+    refusals::value_answer(readings::channel_floor_db(bank, bank_f, k), value)
 }
 
 pub fn wolfcloak_effective_floor_db(
@@ -97,7 +104,7 @@ pub fn wolfcloak_effective_floor_db(
     if !roles::may(roles::READING, role) {
         return roles::STOPPED;
     }
-    answers::value_answer(readings::effective_floor_db(bank, bank_f, k), value)
+    refusals::value_answer(readings::effective_floor_db(bank, bank_f, k), value)
 }
 
 pub fn wolfcloak_rise_floor_db(
@@ -112,7 +119,7 @@ pub fn wolfcloak_rise_floor_db(
     if !roles::may(roles::READING, role) {
         return roles::STOPPED;
     }
-    answers::value_answer(readings::rise_floor_db(bank, bank_f, k), value)
+    refusals::value_answer(readings::rise_floor_db(bank, bank_f, k), value)
 }
 
 pub fn wolfcloak_spectral_reference(
@@ -127,7 +134,7 @@ pub fn wolfcloak_spectral_reference(
     if !roles::may(roles::READING, role) {
         return roles::STOPPED;
     }
-    answers::value_answer(readings::spectral_reference(bank, bank_f, k), value)
+    refusals::value_answer(readings::spectral_reference(bank, bank_f, k), value)
 }
 
 pub fn wolfcloak_floors(

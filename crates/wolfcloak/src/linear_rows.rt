@@ -1,4 +1,6 @@
 // The C interface, R-13's rows: the dB of a power, and the updates from linear power alone.
+#![tactic(auto, unfolding(roles::specs::Rights::as_role))]
+
 ghost use Rattle.std.specs.Prelude.{◌≡◌};
 ghost use Rattle.roles.specs.Rights.{bank_update_linear, gate_update_linear, gate_update_linear_map, bank_update_linear_worst, as_role};
 ghost use Rattle.model.specs.Calls.{bank_update_call};
@@ -25,7 +27,7 @@ pub fn wolfcloak_bank_update_linear(
     if !roles::may(roles::UPDATING, role) {
         return roles::STOPPED;
     }
-    bank_linear::bank_update_linear(bank, bank_f, power, hold_reference)
+    refusals::answer(bank_linear::bank_update_linear(bank, bank_f, power, hold_reference))
 }
 
 pub fn wolfcloak_gate_update_linear(
@@ -43,7 +45,7 @@ pub fn wolfcloak_gate_update_linear(
     if !roles::may(roles::UPDATING, role) {
         return roles::STOPPED;
     }
-    gate_linear::gate_update_linear(bank, bank_f, gate, gate_f, power, rise, drop)
+    refusals::answer(gate_linear::gate_update_linear(bank, bank_f, gate, gate_f, power, rise, drop))
 }
 
 pub fn wolfcloak_gate_update_linear_map(
@@ -62,7 +64,9 @@ pub fn wolfcloak_gate_update_linear_map(
     if !roles::may(roles::UPDATING, role) {
         return roles::STOPPED;
     }
-    gate_linear_map::gate_update_linear_map(bank, bank_f, gate, gate_f, map, power, rise, drop)
+    refusals::answer(gate_linear_map::gate_update_linear_map(
+        bank, bank_f, gate, gate_f, map, power, rise, drop,
+    ))
 }
 
 pub fn wolfcloak_bank_update_linear_worst(
@@ -79,5 +83,12 @@ pub fn wolfcloak_bank_update_linear_worst(
     if !roles::may(roles::UPDATING, role) {
         return roles::STOPPED;
     }
-    bank_linear_worst::bank_update_linear_worst(bank, bank_f, worst, worst_f, power, hold_reference)
+    refusals::answer(bank_linear_worst::bank_update_linear_worst(
+        bank,
+        bank_f,
+        worst,
+        worst_f,
+        power,
+        hold_reference,
+    ))
 }

@@ -1,9 +1,12 @@
 // The C interface, the rows of the hop log (document 02, R-1). Hops are bit patterns.
+#![tactic(auto, unfolding(roles::specs::Rights::as_role))]
+
 ghost use Rattle.std.specs.Prelude.{◌≡◌};
 ghost use Rattle.roles.specs.Rights.{log_write, log_channels, log_read, as_role};
 ghost use Rattle.log_model.specs.Format.{written};
 ghost use Rattle.log_model.specs.Read.{channels, read_hop};
-ghost use Rattle.log_answers.specs.LogAnswers.{channels_answered, write_answered, read_answered};
+ghost use Rattle.refusals.specs.Readings.{answered};
+ghost use Rattle.log_answers.specs.LogAnswers.{write_answered, read_answered};
 
 pub fn wolfcloak_log_write(
     role: u16,
@@ -18,16 +21,16 @@ pub fn wolfcloak_log_write(
     if !roles::may(roles::LOGGING, role) {
         return roles::STOPPED;
     }
-    log_answers::length_answer(log_write::log_write(n, db_bits, power_bits, log), len)
+    refusals::value_answer(log_write::log_write(n, db_bits, power_bits, log), len)
 }
 
 pub fn wolfcloak_log_channels(role: u16, log: &[u8], n: &mut usize) -> u16
-    ensures { (result, n.new) ≡ as_role log_channels role (λ r. (r, n.old)) (channels_answered n.old (channels log.now)) }
+    ensures { (result, n.new) ≡ as_role log_channels role (λ r. (r, n.old)) (answered n.old (channels log.now)) }
 {
     if !roles::may(roles::LOGGING, role) {
         return roles::STOPPED;
     }
-    log_answers::channels_answer(log_read::log_channels(log), n)
+    refusals::value_answer(log_read::log_channels(log), n)
 }
 
 pub fn wolfcloak_log_read(

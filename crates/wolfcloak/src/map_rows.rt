@@ -1,4 +1,6 @@
 // The C interface, the rows of the registers (R-12).
+#![tactic(auto, unfolding(roles::specs::Rights::as_role))]
+
 ghost use Rattle.std.specs.Prelude.{◌≡◌};
 ghost use Rattle.roles.specs.Rights.{map_new, gate_update_map, gate_hold_map, map_read, map_write, map_wire, as_role};
 ghost use Rattle.model.specs.MapCalls.{map_len, map_new_call, map_read_call, map_write_call, map_wire_call, gate_update_map_call, gate_hold_map_call};
@@ -15,7 +17,7 @@ pub fn wolfcloak_map_new(role: u16, gate: &[u16], gate_f: &[f64], map: &mut [u8]
     if !roles::may(roles::MAKING, role) {
         return roles::STOPPED;
     }
-    registers::map_new(gate, gate_f, map)
+    refusals::answer(registers::map_new(gate, gate_f, map))
 }
 
 pub fn wolfcloak_gate_update_map(
@@ -35,7 +37,9 @@ pub fn wolfcloak_gate_update_map(
     if !roles::may(roles::UPDATING, role) {
         return roles::STOPPED;
     }
-    gate_map::gate_update_map(bank, bank_f, gate, gate_f, map, power_db, power, rise, drop)
+    refusals::answer(gate_map::gate_update_map(
+        bank, bank_f, gate, gate_f, map, power_db, power, rise, drop,
+    ))
 }
 
 pub fn wolfcloak_gate_hold_map(
@@ -53,7 +57,7 @@ pub fn wolfcloak_gate_hold_map(
     if !roles::may(roles::HOLDING, role) {
         return roles::STOPPED;
     }
-    gate_map::gate_hold_map(bank, bank_f, gate, gate_f, map, rise, drop)
+    refusals::answer(gate_map::gate_hold_map(bank, bank_f, gate, gate_f, map, rise, drop))
 }
 
 pub fn wolfcloak_map_read(
@@ -69,7 +73,7 @@ pub fn wolfcloak_map_read(
     if !roles::may(roles::READING, role) {
         return roles::STOPPED;
     }
-    registers::map_read(gate, gate_f, map, address, value)
+    refusals::value_answer(registers::map_read(gate, gate_f, map, address), value)
 }
 
 pub fn wolfcloak_map_write(
@@ -85,7 +89,7 @@ pub fn wolfcloak_map_write(
     if !roles::may(roles::WRITING_REGISTERS, role) {
         return roles::STOPPED;
     }
-    registers::map_write(gate, gate_f, map, address, value)
+    refusals::answer(registers::map_write(gate, gate_f, map, address, value))
 }
 
 pub fn wolfcloak_map_wire(role: u16, gate: &[u16], gate_f: &[f64], map: &[u8], up: &mut u8) -> u16
@@ -94,5 +98,5 @@ pub fn wolfcloak_map_wire(role: u16, gate: &[u16], gate_f: &[f64], map: &[u8], u
     if !roles::may(roles::READING, role) {
         return roles::STOPPED;
     }
-    registers::map_wire(gate, gate_f, map, up)
+    refusals::value_answer(registers::map_wire(gate, gate_f, map), up)
 }

@@ -1,4 +1,6 @@
 // The C interface, a run of hops.
+#![tactic(auto, unfolding(roles::specs::Rights::as_role))]
+
 ghost use Rattle.std.specs.Prelude.{◌≡◌};
 ghost use Rattle.roles.specs.Rights.{receive, as_role};
 ghost use Rattle.run_model.specs.Runs.{received};
@@ -20,7 +22,7 @@ pub fn wolfcloak_receive(
     if !roles::may(roles::UPDATING, role) {
         return roles::STOPPED;
     }
-    receive::receive(
+    refusals::answer(receive::receive(
         bank, bank_f, gate, gate_f, hold, power_db, power, rise, drop,
-    )
+    ))
 }

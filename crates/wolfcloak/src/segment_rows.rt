@@ -1,4 +1,6 @@
 // The C interface, R-9: which of several band segments is served next.
+#![tactic(auto, unfolding(roles::specs::Rights::as_role))]
+
 ghost use Rattle.std.specs.Prelude.{◌≡◌};
 ghost use Rattle.roles.specs.Rights.{dispatch, as_role};
 ghost use Rattle.dispatch.specs.Dispatch.{dispatch_of, ticked};

@@ -3,7 +3,7 @@ ghost use Rattle.std.specs.Prelude.{◌≡◌};
 ghost use Rattle.roles.specs.Rights.{gate_new, gate_remake, gate_update, gate_hold, smoothed_db, ema_rise, as_role};
 ghost use Rattle.model.specs.GateCalls.{gate_f_len_for, gate_new_call, gate_update_call, gate_hold_call, smoothed_reading, early_reading};
 ghost use Rattle.model.specs.Remake.{gate_remake_call};
-ghost use Rattle.answers.specs.Answers.{answered};
+ghost use Rattle.refusals.specs.Readings.{answered};
 
 #[unsafe(no_mangle)]
 pub extern "C" fn wolfcloak_gate_f_len(n: usize, lengths: &[u16]) -> usize

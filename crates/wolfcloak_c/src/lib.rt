@@ -16,7 +16,8 @@ ghost use Rattle.roles.specs.Rights.{bank_new, bank_update, bank_update_holding_
 ghost use Rattle.model.specs.Bank.{hop};
 ghost use Rattle.model.specs.Calls.{bank_len_for, bank_f_len_for, bank_new_call, bank_update_call};
 ghost use Rattle.model.specs.Readings.{raw_reading, effective_reading, rise_reading, reference_reading, floors_reading};
-ghost use Rattle.answers.specs.Answers.{answered, floors_answered, ring_answered};
+ghost use Rattle.refusals.specs.Readings.{answered};
+ghost use Rattle.answers.specs.Answers.{floors_answered, ring_answered};
 
 #[unsafe(no_mangle)]
 pub extern "C" fn wolfcloak_bank_len(n: usize) -> usize

@@ -3,7 +3,8 @@ ghost use Rattle.std.specs.Prelude.{◌≡◌};
 ghost use Rattle.roles.specs.Rights.{log_write, log_channels, log_read, as_role};
 ghost use Rattle.log_model.specs.Format.{written};
 ghost use Rattle.log_model.specs.Read.{channels, read_hop};
-ghost use Rattle.log_answers.specs.LogAnswers.{channels_answered, write_answered, read_answered};
+ghost use Rattle.refusals.specs.Readings.{answered};
+ghost use Rattle.log_answers.specs.LogAnswers.{write_answered, read_answered};
 
 #[unsafe(no_mangle)]
 pub extern "C" fn wolfcloak_log_write(
@@ -21,7 +22,7 @@ pub extern "C" fn wolfcloak_log_write(
 
 #[unsafe(no_mangle)]
 pub extern "C" fn wolfcloak_log_channels(role: u16, log: &[u8], n: &mut usize) -> u16
-    ensures { (result, n.new) ≡ as_role log_channels role (λ r. (r, n.old)) (channels_answered n.old (channels log.now)) }
+    ensures { (result, n.new) ≡ as_role log_channels role (λ r. (r, n.old)) (answered n.old (channels log.now)) }
 {
     wolfcloak::log_rows::wolfcloak_log_channels(role, log, n)
 }

@@ -3,7 +3,7 @@ ghost use Rattle.std.specs.Prelude.{◌≡◌};
 ghost use Rattle.roles.specs.Rights.{worst_new, bank_update_worst, worst_floor, as_role};
 ghost use Rattle.model.specs.Bank.{hop};
 ghost use Rattle.model.specs.WorstCalls.{worst_f_len_for, worst_new_call, worst_update, worst_reading};
-ghost use Rattle.answers.specs.Answers.{worst_answered};
+ghost use Rattle.refusals.specs.Readings.{some_answered};
 
 #[unsafe(no_mangle)]
 pub extern "C" fn wolfcloak_worst_f_len(n: usize, w: usize) -> usize
@@ -60,7 +60,7 @@ pub extern "C" fn wolfcloak_worst_floor(
     k: usize,
     value: &mut f64,
 ) -> u16
-    ensures { (result, value.new) ≡ as_role worst_floor role (λ r. (r, value.old)) (worst_answered value.old (worst_reading bank.now bank_f.now worst.now worst_f.now k)) }
+    ensures { (result, value.new) ≡ as_role worst_floor role (λ r. (r, value.old)) (some_answered 101 value.old (worst_reading bank.now bank_f.now worst.now worst_f.now k)) }
 {
     wolfcloak::worst_rows::wolfcloak_worst_floor(role, bank, bank_f, worst, worst_f, k, value)
 }

@@ -24,7 +24,7 @@ returns c =
     let u = c.args.gate.now in
     let f = c.args.gate_f.now in
     c.gate_new.ensures
-    ∙ three-read (λ (x y z : ℤ). gate_new_call u f c.wide-n.result x y z c.put_lengths.new.lengths) c.args.on c.args.off c.args.early
+    ∙ three-read (λ (x y z : ℤ). gate_new_call u f c.from-n.result x y z c.put_lengths.new.lengths) c.args.on c.args.off c.args.early
     c.ranges.on c.ranges.off c.ranges.early
-    ∙ ap₂ (λ (n : ℕ) (l : List ℕ). gate_new_call u f n c.args.on c.args.off c.args.early l) c.wide-n.ensures
+    ∙ ap₂ (λ (n : ℕ) (l : List ℕ). gate_new_call u f n c.args.on c.args.off c.args.early l) c.from-n.ensures
     (c.put_lengths.ensures ∙ ap (λ (k : ℕ). tab k (m_at u)) c.requires.1)

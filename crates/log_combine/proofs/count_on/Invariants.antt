@@ -4,7 +4,7 @@ use Rattle.log_combine.proofs.Counts.{Counting}
 use Rattle.log_combine.proofs.count_on.Given as goal
 
 abbrev pub invariant-loop-next : goal.invariant-loop-next
-invariant-loop-next l = Counting l.log l.db l.power l.at l.hops
+invariant-loop-next l = Counting l.log l.db l.power l.at l.hops_read
 
 abbrev pub decreases-loop-next : goal.decreases-loop-next
 decreases-loop-next l = length l.log - l.at

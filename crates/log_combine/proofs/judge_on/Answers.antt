@@ -38,7 +38,7 @@ hop_len-more-requires c =
     let d = zeros-are n a.d.now s.d_zero in
     let db = zeros-are (n + n) a.db.now s.db_zero in
     let power = zeros-are (n + n) a.power.now s.power_zero in
-    (omega (arith, few, d), (omega (arith, d, db), omega (arith, d, power)))
+    (omega (arith, few, d), omega (arith, d, db))
 
 pub returns-then-not-goes_on : goal.returns-then-not-goes_on
 returns-then-not-goes_on c =

@@ -12,7 +12,7 @@ slice_bounds-d-end c =
     let f : Below 256 a.first.now = λ i h. omega (arith, c.type_inv.first i) in
     let g : Below 256 a.second.now = λ i h. omega (arith, c.type_inv.second i) in
     let l = few-channels a.first.now a.second.now a.hops f g c.requires.paired in
-    let n : c.wide-n.result ≡ low_two a.first.now 0 = omega (arith, c.wide-n.ensures, c.two_bytes.ensures) in
+    let n : c.from-n.result ≡ low_two a.first.now 0 = omega (arith, c.from-n.ensures, c.two_bytes.ensures) in
     omega (arith, l, n)
 
 pub slice_bounds-write_on-end : goal.slice_bounds-write_on-end
@@ -21,8 +21,8 @@ slice_bounds-write_on-end c =
     let f : Below 256 a.first.now = λ i h. omega (arith, c.type_inv.first i) in
     let g : Below 256 a.second.now = λ i h. omega (arith, c.type_inv.second i) in
     let l = few-channels a.first.now a.second.now a.hops f g c.requires.paired in
-    let n : c.wide-n.result ≡ low_two a.first.now 0 = omega (arith, c.wide-n.ensures, c.two_bytes.ensures) in
-    zeros-long c.wide-n.result 512 (omega (arith, l, n))
+    let n : c.from-n.result ≡ low_two a.first.now 0 = omega (arith, c.from-n.ensures, c.two_bytes.ensures) in
+    zeros-long c.from-n.result 512 (omega (arith, l, n))
 
 pub slice_bounds-p-end : goal.slice_bounds-p-end
 slice_bounds-p-end c =
@@ -30,7 +30,7 @@ slice_bounds-p-end c =
     let f : Below 256 a.first.now = λ i h. omega (arith, c.type_inv.first i) in
     let g : Below 256 a.second.now = λ i h. omega (arith, c.type_inv.second i) in
     let l = few-channels a.first.now a.second.now a.hops f g c.requires.paired in
-    let n : c.wide-n.result ≡ low_two a.first.now 0 = omega (arith, c.wide-n.ensures, c.two_bytes.ensures) in
+    let n : c.from-n.result ≡ low_two a.first.now 0 = omega (arith, c.from-n.ensures, c.two_bytes.ensures) in
     omega (arith, l, n)
 
 pub slice_bounds-write_on-end-2 : goal.slice_bounds-write_on-end-2
@@ -39,8 +39,8 @@ slice_bounds-write_on-end-2 c =
     let f : Below 256 a.first.now = λ i h. omega (arith, c.type_inv.first i) in
     let g : Below 256 a.second.now = λ i h. omega (arith, c.type_inv.second i) in
     let l = few-channels a.first.now a.second.now a.hops f g c.requires.paired in
-    let n : c.wide-n.result ≡ low_two a.first.now 0 = omega (arith, c.wide-n.ensures, c.two_bytes.ensures) in
-    zeros-long c.wide-n.result 512 (omega (arith, l, n))
+    let n : c.from-n.result ≡ low_two a.first.now 0 = omega (arith, c.from-n.ensures, c.two_bytes.ensures) in
+    zeros-long c.from-n.result 512 (omega (arith, l, n))
 
 pub slice_bounds-e-end : goal.slice_bounds-e-end
 slice_bounds-e-end c =
@@ -48,7 +48,7 @@ slice_bounds-e-end c =
     let f : Below 256 a.first.now = λ i h. omega (arith, c.type_inv.first i) in
     let g : Below 256 a.second.now = λ i h. omega (arith, c.type_inv.second i) in
     let l = few-channels a.first.now a.second.now a.hops f g c.requires.paired in
-    let n : c.wide-n.result ≡ low_two a.first.now 0 = omega (arith, c.wide-n.ensures, c.two_bytes.ensures) in
+    let n : c.from-n.result ≡ low_two a.first.now 0 = omega (arith, c.from-n.ensures, c.two_bytes.ensures) in
     omega (arith, l, n)
 
 pub slice_bounds-write_on-end-3 : goal.slice_bounds-write_on-end-3
@@ -57,8 +57,8 @@ slice_bounds-write_on-end-3 c =
     let f : Below 256 a.first.now = λ i h. omega (arith, c.type_inv.first i) in
     let g : Below 256 a.second.now = λ i h. omega (arith, c.type_inv.second i) in
     let l = few-channels a.first.now a.second.now a.hops f g c.requires.paired in
-    let n : c.wide-n.result ≡ low_two a.first.now 0 = omega (arith, c.wide-n.ensures, c.two_bytes.ensures) in
-    zeros-long c.wide-n.result 512 (omega (arith, l, n))
+    let n : c.from-n.result ≡ low_two a.first.now 0 = omega (arith, c.from-n.ensures, c.two_bytes.ensures) in
+    zeros-long c.from-n.result 512 (omega (arith, l, n))
 
 pub slice_bounds-q-end : goal.slice_bounds-q-end
 slice_bounds-q-end c =
@@ -66,7 +66,7 @@ slice_bounds-q-end c =
     let f : Below 256 a.first.now = λ i h. omega (arith, c.type_inv.first i) in
     let g : Below 256 a.second.now = λ i h. omega (arith, c.type_inv.second i) in
     let l = few-channels a.first.now a.second.now a.hops f g c.requires.paired in
-    let n : c.wide-n.result ≡ low_two a.first.now 0 = omega (arith, c.wide-n.ensures, c.two_bytes.ensures) in
+    let n : c.from-n.result ≡ low_two a.first.now 0 = omega (arith, c.from-n.ensures, c.two_bytes.ensures) in
     omega (arith, l, n)
 
 pub slice_bounds-write_on-end-4 : goal.slice_bounds-write_on-end-4
@@ -75,8 +75,8 @@ slice_bounds-write_on-end-4 c =
     let f : Below 256 a.first.now = λ i h. omega (arith, c.type_inv.first i) in
     let g : Below 256 a.second.now = λ i h. omega (arith, c.type_inv.second i) in
     let l = few-channels a.first.now a.second.now a.hops f g c.requires.paired in
-    let n : c.wide-n.result ≡ low_two a.first.now 0 = omega (arith, c.wide-n.ensures, c.two_bytes.ensures) in
-    zeros-long c.wide-n.result 512 (omega (arith, l, n))
+    let n : c.from-n.result ≡ low_two a.first.now 0 = omega (arith, c.from-n.ensures, c.two_bytes.ensures) in
+    zeros-long c.from-n.result 512 (omega (arith, l, n))
 
 pub slice_bounds-db-end : goal.slice_bounds-db-end
 slice_bounds-db-end c =
@@ -84,7 +84,7 @@ slice_bounds-db-end c =
     let f : Below 256 a.first.now = λ i h. omega (arith, c.type_inv.first i) in
     let g : Below 256 a.second.now = λ i h. omega (arith, c.type_inv.second i) in
     let l = few-channels a.first.now a.second.now a.hops f g c.requires.paired in
-    let n : c.wide-n.result ≡ low_two a.first.now 0 = omega (arith, c.wide-n.ensures, c.two_bytes.ensures) in
+    let n : c.from-n.result ≡ low_two a.first.now 0 = omega (arith, c.from-n.ensures, c.two_bytes.ensures) in
     omega (arith, l, n)
 
 pub slice_bounds-write_on-end-5 : goal.slice_bounds-write_on-end-5
@@ -93,8 +93,8 @@ slice_bounds-write_on-end-5 c =
     let f : Below 256 a.first.now = λ i h. omega (arith, c.type_inv.first i) in
     let g : Below 256 a.second.now = λ i h. omega (arith, c.type_inv.second i) in
     let l = few-channels a.first.now a.second.now a.hops f g c.requires.paired in
-    let n : c.wide-n.result ≡ low_two a.first.now 0 = omega (arith, c.wide-n.ensures, c.two_bytes.ensures) in
-    zeros-long (c.wide-n.result + c.wide-n.result) 1024 (omega (arith, l, n))
+    let n : c.from-n.result ≡ low_two a.first.now 0 = omega (arith, c.from-n.ensures, c.two_bytes.ensures) in
+    zeros-long (c.from-n.result + c.from-n.result) 1024 (omega (arith, l, n))
 
 pub slice_bounds-power-end : goal.slice_bounds-power-end
 slice_bounds-power-end c =
@@ -102,7 +102,7 @@ slice_bounds-power-end c =
     let f : Below 256 a.first.now = λ i h. omega (arith, c.type_inv.first i) in
     let g : Below 256 a.second.now = λ i h. omega (arith, c.type_inv.second i) in
     let l = few-channels a.first.now a.second.now a.hops f g c.requires.paired in
-    let n : c.wide-n.result ≡ low_two a.first.now 0 = omega (arith, c.wide-n.ensures, c.two_bytes.ensures) in
+    let n : c.from-n.result ≡ low_two a.first.now 0 = omega (arith, c.from-n.ensures, c.two_bytes.ensures) in
     omega (arith, l, n)
 
 pub slice_bounds-write_on-end-6 : goal.slice_bounds-write_on-end-6
@@ -111,17 +111,17 @@ slice_bounds-write_on-end-6 c =
     let f : Below 256 a.first.now = λ i h. omega (arith, c.type_inv.first i) in
     let g : Below 256 a.second.now = λ i h. omega (arith, c.type_inv.second i) in
     let l = few-channels a.first.now a.second.now a.hops f g c.requires.paired in
-    let n : c.wide-n.result ≡ low_two a.first.now 0 = omega (arith, c.wide-n.ensures, c.two_bytes.ensures) in
-    zeros-long (c.wide-n.result + c.wide-n.result) 1024 (omega (arith, l, n))
+    let n : c.from-n.result ≡ low_two a.first.now 0 = omega (arith, c.from-n.ensures, c.two_bytes.ensures) in
+    zeros-long (c.from-n.result + c.from-n.result) 1024 (omega (arith, l, n))
 
 pub write_on-requires-clause-ready : goal.write_on-requires-clause-ready
 write_on-requires-clause-ready c =
-    let n : ℕ = c.wide-n.result in
+    let n : ℕ = c.from-n.result in
     let a = c.args in
     let f : Below 256 a.first.now = λ i h. omega (arith, c.type_inv.first i) in
     let g : Below 256 a.second.now = λ i h. omega (arith, c.type_inv.second i) in
     let l = few-channels a.first.now a.second.now a.hops f g c.requires.paired in
-    let i : n ≡ low_two a.first.now 0 = omega (arith, c.wide-n.ensures, c.two_bytes.ensures) in
+    let i : n ≡ low_two a.first.now 0 = omega (arith, c.from-n.ensures, c.two_bytes.ensures) in
     let one : n ≤ 512 = omega (arith, l, i) in
     let two : n + n ≤ 1024 = omega (arith, one) in
     record {

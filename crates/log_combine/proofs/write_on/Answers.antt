@@ -39,18 +39,18 @@ turn-next-requires-clause-db_len c =
     let g : Below 256 a.second.now = λ i h. omega (arith, c.type_inv.second i) in
     (walk-lends a.first.now a.second.now a.hops f g c.requires.ready.pair o.x o.y o.len o.j o.d o.p o.e o.q o.db o.power o.invariant.1).1
 
-pub put_hop-len-requires-clause-n_in_bounds : goal.put_hop-len-requires-clause-n_in_bounds
-put_hop-len-requires-clause-n_in_bounds c =
+pub put_hop-len-requires-clause-hop : goal.put_hop-len-requires-clause-hop
+put_hop-len-requires-clause-hop c =
     let a = c.args in
     let v = c.loop-j.invariant.1 in
     let f : Below 256 a.first.now = λ i h. omega (arith, c.type_inv.first i) in
     let g : Below 256 a.second.now = λ i h. omega (arith, c.type_inv.second i) in
     let n = zeros-are (low_two a.first.now 0) a.d.now c.requires.ready.lent.d_zero in
     let few = few-channels a.first.now a.second.now a.hops f g c.requires.ready.pair in
-    (omega (arith, v.db_long, n), (omega (arith, v.db_long, v.power_long), omega (arith, few, n)))
+    (omega (arith, v.db_long, n), omega (arith, few, n))
 
-pub put_hop-len-requires-clause-k_in_bounds : goal.put_hop-len-requires-clause-k_in_bounds
-put_hop-len-requires-clause-k_in_bounds c =
+pub put_hop-len-requires-clause-room : goal.put_hop-len-requires-clause-room
+put_hop-len-requires-clause-room c =
     let a = c.args in
     let o = c.loop-j in
     let m = c.turn-next.new in

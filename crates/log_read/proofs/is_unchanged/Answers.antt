@@ -1,7 +1,8 @@
 -- A channel whose bit is clear has no pair; one whose bit is set has it at `pair`, and it is the one held or not.
-use Rattle.std.proofs.Common.{refl, sym, ap, ◌∙◌, ℕ, ◌+◌, Bool, true, false, length, arith, rules}
+use Rattle.std.proofs.Common.{◌≡◌, refl, sym, ap, ◌∙◌, ℕ, ◌+◌, Bool, true, false, length, arith, rules}
 use Rattle.laws.specs.Tests.{any_below}
 use Rattle.laws.proofs.Tests.{any-more, any_at}
+use Rattle.laws.specs.Bits.{width}
 use Rattle.log_model.specs.Read.{pair_at, unchanged}
 use Rattle.log_model.proofs.Pairs.{pair-first, pair-more, pair_same, pair-room, unchanged-set, unchanged-clear}
 use Rattle.log_read.proofs.is_unchanged.Goals as goal
@@ -15,7 +16,7 @@ pub loop-k-init : goal.loop-k-init
 unfolding any_below
 loop-k-init c =
     let a = c.args in
-    (ap (λ (w : ℕ). a.at + w) c.width.ensures ∙ pair-first a.log.now a.at (length a.db.now), refl)
+    (ap (λ (w : ℕ). a.at + w) (let z : c.div_ceil.result ≡ width (length a.db.now) = omega arith in z) ∙ pair-first a.log.now a.at (length a.db.now), refl)
 
 pub is_set-requires : goal.is_set-requires
 unfolding pair_at

@@ -1,6 +1,7 @@
 -- A channel whose bit is clear stays as it was; one whose bit is set takes the pair at `pair`, within the log.
-use Rattle.std.proofs.Common.{sym, ap, subst, ◌∙◌, ℕ, ◌+◌, length, arith, rules}
+use Rattle.std.proofs.Common.{◌≡◌, sym, ap, subst, ◌∙◌, ℕ, ◌+◌, length, arith, rules}
 use Rattle.laws.proofs.Fills.{Filled, begins, turns, stays}
+use Rattle.laws.specs.Bits.{width}
 use Rattle.log_model.specs.Read.{pair_at, db_after, power_after}
 use Rattle.log_model.proofs.Pairs.{pair-first, pair-more, pair_same, pair-room, db-set, db-clear, power-set, power-clear}
 use Rattle.log_read.proofs.take_pairs.Goals as goal
@@ -13,7 +14,7 @@ overflow_add-pair c = search rules
 pub loop-k-init : goal.loop-k-init
 loop-k-init c =
     let a = c.args in
-    (ap (λ (w : ℕ). a.at + w) c.width.ensures ∙ pair-first a.log.now a.at (length a.db.now), (begins _ _, begins _ _))
+    (ap (λ (w : ℕ). a.at + w) (let z : c.div_ceil.result ≡ width (length a.db.now) = omega arith in z) ∙ pair-first a.log.now a.at (length a.db.now), (begins _ _, begins _ _))
 
 pub is_set-requires : goal.is_set-requires
 unfolding pair_at

@@ -1,28 +1,23 @@
--- `watch_batch::put_db` meets its contract. Assumes nothing.
-use Rattle.laws.specs.Lists.{splice, tab}
-use mathlib.Core.Path.{◌≡◌, ap, ◌∙◌}
-use mathlib.Core.List.{List}
-use Prim.Native.Nat.{ℕ, min}
-use native.Mathlib.Omega.{arith}
-use lib.ListN.{length, get_or}
-use lib.Ieee.{Float}
+-- `watch_batch::put_db` meets its contract: what is put in front is a list's front. Assumes nothing.
+use Rattle.std.proofs.Common.{◌≡◌, ◌∙◌, sym, ap, List, ℕ, ◌≤◌, ◌++◌, min, length, get_or, take, drop, arith}
+use Rattle.std.specs.Float.{Float}
+use lib.ListN.{length-take}
+use lib.Seq.{get_or-take}
+use Rattle.laws.specs.Lists.{tab}
+use Rattle.laws.proofs.Tabs.{tab-ext, tab-get_d}
 use Rattle.model.specs.Numbers.{f0}
-use Rattle.laws.proofs.Fills.{begins, turns}
 use Rattle.watch_batch.proofs.put_db.Goals as goal
 
-abbrev entry : List Float → ℕ → Float
-entry f k = get_or f k f0
-
-pub loop-k-init : goal.loop-k-init
-loop-k-init c = (c.least-k-end.ensures.0, omega arith, begins _ _)
-
-pub loop-k-preserved : goal.loop-k-preserved
-loop-k-preserved c = let l = c.before in
-    let s = l.before in
-    (l.loop-k.invariant.0, omega arith, turns s.args.gate_f.now (entry s.args.smooth.now) l.loop-k.k l.loop-k.gate_f c.db_at.result l.loop-k.invariant.2 (omega arith) c.db_at.ensures)
+front : (l : List Float) (m : ℕ) → m ≤ length l → take m l ≡ tab m (λ k. get_or l k f0)
+front l m h =
+    sym (tab-get_d (take m l) f0 m (omega (arith, length-take m l)))
+    ∙ tab-ext m (λ k. get_or (take m l) k f0) (λ k. get_or l k f0) (λ k lt. get_or-take m l k f0 lt)
 
 pub returns : goal.returns
-returns c = let l = c.before in
-    let s = l.before in
-    let m : l.loop-k.k ≡ min (length s.args.smooth.now) (length s.args.gate_f.now) = omega arith ∙ l.loop-k.invariant.0 in
-    l.loop-k.invariant.2.so_far ∙ ap (λ (j : ℕ). splice 0 j s.args.gate_f.now (tab j (entry s.args.smooth.now))) m
+returns c =
+    let s = c.args.smooth.now in
+    let f = c.args.gate_f.now in
+    let m = c.min-m.result in
+    let least : m ≡ min (length s) (length f) = c.min-m.ensures in
+    ap (λ (p : List Float). p ++ drop m f) (c.copy_from_slice.ensures.after ∙ front s m (omega arith))
+    ∙ ap (λ (j : ℕ). tab j (λ k. get_or s k f0) ++ drop j f) least

@@ -1,8 +1,7 @@
-use Rattle.watch_lines.proofs.Texts.{last, then, both, plain}
+use Rattle.watch_lines.proofs.Texts.{right_0}
+use Rattle.watch_lines.specs.Lines.{put_texts}
 use Rattle.watch_fault_lines.proofs.put_bad_band.Goals as goal
 
 pub returns : goal.returns
-returns c =
-    both _ _ _ _ _ c.put_place-at.ensures
-    (then _ _ _ _ _ (plain _ _ _ (rw c.wide.ensures.0 at c.put_number-at.ensures))
-    (last _ _ _ c.put_text.ensures))
+unfolding put_texts
+returns c = simp (c.put_text.ensures, c.put_number.ensures, c.put_place.ensures, c.from.ensures, right_0)

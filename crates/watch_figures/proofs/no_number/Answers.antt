@@ -1,7 +1,7 @@
 use Rattle.std.proofs.Common.{refl}
-use lib.Ieee.{div, of_bits}
+use lib.Ieee.{of_bits}
 use Rattle.watch_figures.proofs.no_number.Goals as goal
 
 pub returns : goal.returns
-unfolding div of_bits
+unfolding of_bits
 returns c = refl

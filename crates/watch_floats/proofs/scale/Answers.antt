@@ -1,17 +1,20 @@
-use Rattle.std.proofs.Common.{◌-◌, sym, refl, ◌∙◌, arith}
+use Rattle.std.proofs.Common.{◌≡◌, ◌-◌, sym, refl, ap, ◌∙◌, ℕ, arith}
 use Rattle.watch_floats.proofs.Scales.{scale-next, scale-stays, scale-ends}
 use Rattle.watch_floats.specs.Floats.{scale_of}
 use Rattle.watch_floats.proofs.scale.Goals as goal
 
-pub loop-s-init : goal.loop-s-init
+pub loop-tens-init : goal.loop-tens-init
 unfolding scale_of
-loop-s-init c = (omega arith, refl)
+loop-tens-init c = refl
 
-pub loop-s-preserved : goal.loop-s-preserved
-loop-s-preserved c = (omega arith, c.loop-s.invariant.1 ∙ scale-next c.loop-s.s (omega arith) c.if-s.true)
+pub loop-tens-preserved : goal.loop-tens-preserved
+loop-tens-preserved c = c.loop-tens.invariant ∙ scale-next (record { x = c.loop-tens.size; tens = c.loop-tens.tens }) (omega arith) c.if-not-size.false
 
-pub returns-else-s : goal.returns-else-s
-returns-else-s c = sym (c.loop-s.invariant.1 ∙ scale-stays (330 - c.loop-s.s.tens) c.loop-s.s c.if-s.false)
+pub returns-then-not-size : goal.returns-then-not-size
+returns-then-not-size c = sym (c.loop-tens.invariant ∙ scale-stays (330 - c.loop-tens.tens) _ c.if-not-size.true)
 
-pub returns-after-loop-s : goal.returns-after-loop-s
-returns-after-loop-s c = sym (c.loop-s.invariant.1 ∙ scale-ends (330 - c.loop-s.s.tens) c.loop-s.s (omega arith))
+pub returns : goal.returns
+returns c =
+    let k = c.loop-tens in
+    let e : 330 ≡ k.tens = omega arith in
+    ap (λ (n : ℕ). record { x = k.size; tens = n }) e ∙ sym (k.invariant ∙ scale-ends (330 - k.tens) _ (omega arith))

@@ -1,12 +1,7 @@
-use mathlib.Core.Path.{◌≡◌}
+use Rattle.std.proofs.Common.{◌≡◌, take, Some}
 use mathlib.Core.List.{foldl}
-use Prim.Native.Nat.{◌-◌, ◌≤◌}
-use lib.ListN.{length, take}
 use Rattle.watch_lengths.specs.Lengths.{step, begun}
 use Rattle.watch_lengths.proofs.lengths_of.Given as goal
 
-abbrev pub invariant-loop-i : goal.invariant-loop-i
-invariant-loop-i l = (l.i ≤ l.i-end) × (l.i-end ≡ length l.word) × ((l.lengths, l.s) ≡ foldl step (l.initial.lengths, begun) (take l.i l.word))
-
-abbrev pub decreases-loop-i : goal.decreases-loop-i
-decreases-loop-i l = l.i-end - l.i
+abbrev pub invariant-loop-b : goal.invariant-loop-b
+invariant-loop-b l = (l.lengths, l.listed) ≡ foldl step (l.initial.lengths, Some begun) (take l.b-index l.word)

@@ -3,7 +3,7 @@ use Rattle.watch_lines.proofs.put_channel_line.Goals as goal
 
 pub returns : goal.returns
 returns c =
-    both _ _ _ _ _ c.put_channel_floors-at.ensures
-    (both _ _ _ _ _ c.put_worst_column-at.ensures
-    (both _ _ _ _ _ c.put_origins-at.ensures
+    both _ _ _ _ _ c.put_channel_floors.ensures
+    (both _ _ _ _ _ c.put_worst_column.ensures
+    (both _ _ _ _ _ c.put_origins.ensures
     c.put_channel_end.ensures))

@@ -1,14 +1,6 @@
--- `watch_log::fill_db` meets its contract. Assumes nothing.
-use mathlib.Core.Path.{◌≡◌}
-use mathlib.Core.List.{List}
-use Prim.Native.Nat.{ℕ}
-use lib.Ieee.{Float, binary64, of_bits}
-use lib.ListN.{length, get_or}
-use Rattle.laws.proofs.Fills.{Filled}
+-- The floats whose bits the patterns are.
+use lib.Ieee.{binary64, of_bits}
 use Rattle.watch_log.proofs.fill_db.Given as goal
 
-abbrev float_of : List ℕ → ℕ → Float
-float_of bits k = of_bits binary64 (get_or bits k 0)
-
-abbrev pub invariant-loop-k : goal.invariant-loop-k
-invariant-loop-k l = (l.k-end ≡ length l.initial.db) × Filled l.initial.db (float_of l.bits) l.k l.db
+abbrev pub ghost-fill : goal.ghost-fill
+ghost-fill a = of_bits binary64

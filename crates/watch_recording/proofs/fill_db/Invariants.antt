@@ -1,5 +1,5 @@
 use lib.Ieee.{Float}
-use Rattle.std.proofs.Common.{◌≡◌, ℕ, ◌+◌, ◌-◌, ◌*◌, List, length}
+use Rattle.std.proofs.Common.{ℕ, ◌+◌, ◌*◌, List}
 use Rattle.laws.proofs.Fills.{Filled}
 use Rattle.low_first.specs.LowFirst.{double_at}
 use Rattle.watch_recording.proofs.fill_db.Given as goal
@@ -8,7 +8,4 @@ abbrev pub db_of : List ℕ → ℕ → Float
 db_of hop k = double_at hop (1 + 8 * k)
 
 abbrev pub invariant-loop-k : goal.invariant-loop-k
-invariant-loop-k l = (l.k-end ≡ length l.initial.db) × Filled l.initial.db (db_of l.hop) l.k l.db
-
-abbrev pub decreases-loop-k : goal.decreases-loop-k
-decreases-loop-k l = l.k-end - l.k
+invariant-loop-k l = Filled l.initial.db (db_of l.hop) l.k l.db

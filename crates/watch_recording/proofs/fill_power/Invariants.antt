@@ -1,5 +1,5 @@
 use lib.Ieee.{Float}
-use Rattle.std.proofs.Common.{◌≡◌, ℕ, ◌+◌, ◌-◌, ◌*◌, List, length}
+use Rattle.std.proofs.Common.{ℕ, ◌+◌, ◌*◌, List}
 use Rattle.laws.proofs.Fills.{Filled}
 use Rattle.low_first.specs.LowFirst.{single_at}
 use Rattle.watch_recording.proofs.fill_power.Given as goal
@@ -8,7 +8,4 @@ abbrev pub power_of : List ℕ → ℕ → ℕ → Float
 power_of hop n k = single_at hop (1 + 8 * n + 4 * k)
 
 abbrev pub invariant-loop-k : goal.invariant-loop-k
-invariant-loop-k l = (l.k-end ≡ length l.initial.power) × Filled l.initial.power (power_of l.hop l.n) l.k l.power
-
-abbrev pub decreases-loop-k : goal.decreases-loop-k
-decreases-loop-k l = l.k-end - l.k
+invariant-loop-k l = Filled l.initial.power (power_of l.hop l.n) l.k l.power

@@ -1,4 +1,4 @@
-use Rattle.std.proofs.Common.{◌≡◌, ℕ, ◌-◌, List, length, get_or}
+use Rattle.std.proofs.Common.{ℕ, List, get_or}
 use lib.Bits.{bit_or}
 use Rattle.laws.proofs.Fills.{Filled}
 use Rattle.watch_states.specs.States.{change_at}
@@ -8,7 +8,4 @@ abbrev pub event_of : List ℕ → List ℕ → List ℕ → List ℕ → ℕ �
 event_of events alive rise drop k = bit_or (get_or events k 0) (change_at alive rise drop k)
 
 abbrev pub invariant-loop-k : goal.invariant-loop-k
-invariant-loop-k l = (l.k-end ≡ length l.initial.events) × Filled l.initial.events (event_of l.initial.events l.alive l.rise l.drop) l.k l.events
-
-abbrev pub decreases-loop-k : goal.decreases-loop-k
-decreases-loop-k l = l.k-end - l.k
+invariant-loop-k l = Filled l.initial.events (event_of l.initial.events l.alive l.rise l.drop) l.k l.events

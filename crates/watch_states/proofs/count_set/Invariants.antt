@@ -1,4 +1,4 @@
-use Rattle.std.proofs.Common.{◌≡◌, ℕ, ◌+◌, ◌-◌, ◌%◌, ◌^◌, List, length, get_or}
+use Rattle.std.proofs.Common.{ℕ, ◌+◌, ◌%◌, ◌^◌, List, get_or}
 use Rattle.laws.specs.Lists.{one}
 use Rattle.laws.proofs.Fills.{Filled}
 use Rattle.watch_states.specs.States.{is_set}
@@ -8,7 +8,4 @@ abbrev pub count_of : List ℕ → List ℕ → ℕ → ℕ
 count_of counts marks k = (get_or counts k 0 + one (is_set marks k)) % 2 ^ 64
 
 abbrev pub invariant-loop-k : goal.invariant-loop-k
-invariant-loop-k l = (l.k-end ≡ length l.initial.counts) × Filled l.initial.counts (count_of l.initial.counts l.marks) l.k l.counts
-
-abbrev pub decreases-loop-k : goal.decreases-loop-k
-decreases-loop-k l = l.k-end - l.k
+invariant-loop-k l = Filled l.initial.counts (count_of l.initial.counts l.marks) l.k l.counts

@@ -1,4 +1,4 @@
-use Rattle.std.proofs.Common.{◌≡◌, ℕ, ◌-◌, List, length}
+use Rattle.std.proofs.Common.{ℕ, List}
 use Rattle.laws.specs.Lists.{one}
 use Rattle.laws.proofs.Fills.{Filled}
 use Rattle.watch_states.specs.States.{state_after, is_set}
@@ -8,7 +8,4 @@ abbrev pub state_of : List ℕ → List ℕ → List ℕ → ℕ → ℕ
 state_of alive rise drop k = one (state_after (is_set alive k) (is_set rise k) (is_set drop k))
 
 abbrev pub invariant-loop-k : goal.invariant-loop-k
-invariant-loop-k l = (l.k-end ≡ length l.initial.alive) × Filled l.initial.alive (state_of l.initial.alive l.rise l.drop) l.k l.alive
-
-abbrev pub decreases-loop-k : goal.decreases-loop-k
-decreases-loop-k l = l.k-end - l.k
+invariant-loop-k l = Filled l.initial.alive (state_of l.initial.alive l.rise l.drop) l.k l.alive

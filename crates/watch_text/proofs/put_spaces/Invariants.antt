@@ -1,7 +1,6 @@
-use mathlib.Core.Path.{◌≡◌}
-use Prim.Native.Nat.{◌≤◌}
-use Rattle.watch_text.specs.Text.{put_all, spaces}
+use Rattle.std.proofs.Common.{◌≡◌}
+use Rattle.watch_text.specs.Text.{written, put_all, spaces}
 use Rattle.watch_text.proofs.put_spaces.Given as goal
 
-abbrev pub invariant-loop-i : goal.invariant-loop-i
-invariant-loop-i l = (l.i ≤ l.count) × ((l.line, l.end) ≡ put_all (l.initial.line, l.at) (spaces l.i))
+abbrev pub invariant-loop : goal.invariant-loop
+invariant-loop l = written l.line ≡ put_all (written l.initial.line) (spaces l.counter)

@@ -1,0 +1,9 @@
+use Rattle.std.proofs.Common.{◌*◌}
+use Rattle.bank_sound.specs.Tallies.{Tallied}
+use Rattle.bank_sound.proofs.count_all.Given as goal
+
+abbrev pub invariant-loop-eight : goal.invariant-loop-eight
+invariant-loop-eight l = Tallied (8 * l.eight) l.chan l.t
+
+abbrev pub invariant-loop-k : goal.invariant-loop-k
+invariant-loop-k l = Tallied l.k l.chan l.t

@@ -1,0 +1,13 @@
+-- One more where bit `k` is set.
+use Rattle.std.proofs.Common.{arith}
+use Rattle.log_model.proofs.Counts.{none, one_more, all}
+use Rattle.log_read.proofs.count_set.Goals as goal
+
+pub loop-k-init : goal.loop-k-init
+loop-k-init c = none _
+
+pub loop-k-preserved : goal.loop-k-preserved
+loop-k-preserved c = one_more _ c.loop-k.k c.loop-k.count c.from-count.result c.is_set.result c.loop-k.invariant c.is_set.ensures c.from-count.ensures
+
+pub returns : goal.returns
+returns c = all _ c.loop-k.k c.args.n c.loop-k.count c.loop-k.invariant (omega arith)
