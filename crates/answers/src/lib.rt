@@ -32,7 +32,7 @@ pub fn floors_answer(
     }
 }
 
-// Where in `bank` the ring of channel k lies.
+// Where in `bank` the ring of channel k lies. Two slices, as C lends a bank: it is not yet known to be one.
 pub fn ring_answer(
     bank: &[u16],
     bank_f: &[f64],

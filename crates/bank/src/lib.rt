@@ -8,7 +8,7 @@ ghost use Rattle.model.specs.Calls.{bank_update_call};
 
 use refusals::Refusal;
 
-// Slices and no struct of them: behind a struct of `&mut` an ensures reads store.exit.0.now, and C lends them one by one.
+// Slices and no struct of them, in both calls: behind a struct of `&mut` an ensures reads store.exit.0.now, and C lends them one by one, dB and power too.
 // One hop's dB and linear power of each channel; with `hold_reference` the smoothed powers stay as they are.
 #[tactic(auto, using(crate::proofs::Calls::turned_down))]
 pub fn bank_update_holding_reference(

@@ -1,5 +1,7 @@
-// The stored floors of a slow hop: what changes the f64 store after the pushes. A turn of a loop reads and writes the same place of several lists, so it
-// goes by the number of the channel or block.
+// The stored floors of a slow hop: what changes the f64 store after the pushes. The loops go by the number of a channel or block: its floor stands in one
+// list of the store and is worked out from the same place of others, and from its part of the u16 store, whose place is worked out from the number.
+// Two slices, as C lends them, and `Ready`, that they are the stores of one bank, in each contract: a struct that carried it would hold the one by `&mut`,
+// since it is written, and a clause would read what lies behind that.
 #![tactic(auto)]
 
 ghost use Rattle.std.specs.Prelude.{◌≡◌, ◌≤◌, ◌<◌, length};
@@ -10,7 +12,8 @@ ghost use Rattle.bank_stages.specs.Steps.{raw_step, usable_step, block_step, ris
 
 use model::layout::{BLOCK_CHANNELS, CHANNEL_LEN};
 
-// Channel k's part of the store of n channels.
+// Channel k's part of the store of n channels. The bounds of n and k follow from `Ready` at each call; a type for them would be made there and used here
+// alone.
 fn channel(bank: &[u16], n: usize, k: usize) -> &[u16; CHANNEL_LEN]
     requires { (n ≤ 512) × (k < n) × (length bank.now ≡ bank_len n) }
     ensures { result.now ≡ chan_part n bank.now k }
@@ -61,13 +64,13 @@ pub fn rise_floors(bank_f: &mut [f64], bank: &[u16])
     for k in 0..n {
         let i = k / BLOCK_CHANNELS;
         let since = ring::since(channel(bank, n, k));
-        let floor = block::rise_floor(
-            bank_f[n + k],
-            bank_f[4 * n + i],
+        let floor = block::rise_floor(block::Sources {
+            usable: bank_f[n + k],
+            block_floor: bank_f[4 * n + i],
             since,
-            bank[3 + i],
-            bank_f[4 * n + blocks + i],
-        );
+            pushes: bank[3 + i],
+            sum: bank_f[4 * n + blocks + i],
+        });
         bank_f[3 * n + k] = floor;
     }
 }

@@ -1,4 +1,5 @@
-// Document 02, R-13: a bank update from linear power alone.
+// Document 02, R-13: a bank update from linear power alone. The two stores are slices, as C lends them and as `bank` takes them: the clause says what is
+// left in each, which behind a struct of `&mut` it could say of store.exit.0.now alone.
 #![tactic(auto)]
 
 ghost use Rattle.std.specs.Prelude.{◌≡◌};

@@ -9,6 +9,7 @@ ghost use Rattle.model.specs.Decibels.{linear_hop};
 use refusals::Refusal;
 
 // One hop's linear power of each channel, whose dB is worked out here; then it is the update that carries the store.
+// Both stores are written: behind a struct of `&mut` the clause below would read store.exit.0.now four times.
 pub fn bank_update_linear_worst(
     bank: &mut [u16],
     bank_f: &mut [f64],

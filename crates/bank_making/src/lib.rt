@@ -1,4 +1,5 @@
-// A fresh bank: floors at the bottom, smoothed the literal FRESH_POWER, the rest 0.
+// A fresh bank: floors at the bottom, smoothed the literal FRESH_POWER, the rest 0. C lends the two stores one by one, and the call writes both: behind a
+// struct of `&mut` its clause would read of what lies behind each field and no longer of bank.new and bank_f.new.
 #![tactic(auto)]
 
 ghost use Rattle.std.specs.Prelude.{◌≡◌, ◌≤◌, length};
@@ -18,6 +19,7 @@ fn fresh_u(bank: &mut [u16], n: u16)
     bank[0] = n;
 }
 
+// That n is at most 512 is a clause: `bank_new` has just tested it, and a type that says so would be made for this one call.
 fn fresh_f(bank_f: &mut [f64], n: usize)
     requires { (n ≤ 512) × (length bank_f.old ≡ bank_f_len n) }
     ensures { bank_f.new ≡ bank_floats (fresh_bank n) }
@@ -34,7 +36,7 @@ pub fn bank_new(bank: &mut [u16], bank_f: &mut [f64], n: usize) -> Result<(), Re
     ensures { (answer result, bank.new, bank_f.new) ≡ bank_new_call bank.old bank_f.old n }
 {
     store_sizes::size_refusal(Refusal::Band, bank.len(), bank_f.len(), n)?;
-    // What is cut to fewer bits here fits in them, which is proved.
+    // No From leads from usize to u16; that n fits, being at most 512, is proved.
     fresh_u(bank, n as u16);
     fresh_f(bank_f, n);
     Ok(())

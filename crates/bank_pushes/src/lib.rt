@@ -1,4 +1,6 @@
-// A slow hop's seeds and pushes: what changes the u16 store.
+// A slow hop's seeds and pushes: what changes the u16 store. Both stores come as C lends them, a slice each: a call writes one or both, and of a
+// struct of two `&mut` its clause would have to say what stands behind each field. So `Ready`, that they are one bank's, is a clause, and that a hop's dB
+// are as many as its channels.
 #![tactic(auto)]
 
 ghost use Rattle.std.specs.Prelude.{◌≡◌, ◌+◌, ◌*◌, ◌<◌, ◌≤◌, length, get_or};
@@ -12,6 +14,20 @@ ghost use Rattle.bank_stages.specs.Steps.{Holds, seed_step, push_step};
 
 use model::layout::{BLOCK_CHANNELS, CHANNEL_LEN};
 
+// A channel's part of the store takes a bin. The test of its length goes when this is compiled, since the part is cut with that length: a push takes 68
+// instructions on noise, as many as into a slice.
+fn push_into(part: &mut [u16], bin: u16, quiet: bool)
+    requires part_len { length part.old ≡ channel_len }
+    requires sound { Sound ring_len bins (chan_of part.old) }
+    requires bin_lt_bins { bin < bins }
+    ensures { part.new ≡ chan_u (push_in ring_len quiet (chan_of part.old) bin) }
+{
+    let Some(chan) = part.as_mut_array() else {
+        unreachable!()
+    };
+    ring::push(chan, bin, quiet);
+}
+
 // The channel at `a` takes the bin of p.
 fn push_at(bank: &mut [u16], a: usize, p: f64, quiet: bool)
     requires channel_len_in_bounds { a + channel_len ≤ length bank.old }
@@ -19,7 +35,7 @@ fn push_at(bank: &mut [u16], a: usize, p: f64, quiet: bool)
     ensures { bank.new ≡ splice a channel_len bank.old (chan_u (push_in ring_len quiet (chan_of (part a channel_len bank.old)) (bin_of p))) }
 {
     let bin = ring::bin_index(p);
-    ring::push(&mut bank[a..a + CHANNEL_LEN], bin, quiet);
+    push_into(&mut bank[a..a + CHANNEL_LEN], bin, quiet);
 }
 
 // Each channel takes the bin of its dB. Until its block has a seed push, an entry of bin 0 counts as lead.

@@ -1,4 +1,4 @@
--- Channels one after another in a bank's store, and the tallies of four of them.
+-- Channels one after another: in a bank's store, eight and four of them as lists of their own, and the tallies of four.
 use Rattle.std.specs.Prelude.{◌≡◌, Bool, true, List, ℕ, ◌+◌, ◌*◌, ◌<◌, ◌≤◌, eqb, length, get_or, take, set}
 use Rattle.laws.specs.Lists.{occ, part}
 use Rattle.laws.specs.Tests.{all_below}
@@ -9,36 +9,51 @@ use Rattle.model.specs.Stores.{chan_of, sound_fields, sound_channel}
 abbrev pub chan_at : ℕ → List ℕ → ℕ → List ℕ
 chan_at from u k = part (from + channel_len * k) channel_len u
 
+-- the k-th of channels that are a list of their own
+abbrev pub chan_in : List ℕ → ℕ → List ℕ
+chan_in u k = part (channel_len * k) channel_len u
+
+-- the first four of eight channels, and the four behind them
+abbrev pub front_of : List ℕ → List ℕ
+front_of u = take (4 * channel_len) u
+
+abbrev pub behind_of : List ℕ → List ℕ
+behind_of u = part (4 * channel_len) (4 * channel_len) u
+
 -- a channel with so many filled places, whose fields are sound
 pub record Filled (n : ℕ) (l : List ℕ) : Type 0 where
   pub filled : get_or l at_filled 0 ≡ n
   pub fields : sound_fields (get_or l at_next 0) (get_or l at_filled 0) (get_or l at_lead 0) (get_or l at_counts 0) ≡ true
 
 -- eight such channels, whose entries are bins below top: all but the counts is asked
-pub record EightReady (n top from : ℕ) (u : List ℕ) : Type 0 where
-  pub filled : (k : ℕ) → k < 8 → Filled n (chan_at from u k)
-  pub low : (k i : ℕ) → k < 8 → i < ring_len → get_or u (from + channel_len * k + i) 0 < top
+pub record EightReady (n top : ℕ) (u : List ℕ) : Type 0 where
+  pub filled : (k : ℕ) → k < 8 → Filled n (chan_in u k)
+  pub low : (k i : ℕ) → k < 8 → i < ring_len → get_or u (channel_len * k + i) 0 < top
 
-abbrev pub EightSound : ℕ → List ℕ → Type 0
-EightSound from u = (k : ℕ) → k < 8 → sound_channel (chan_of (chan_at from u k)) ≡ true
+-- the counts of eight channels from top on are 0
+abbrev pub NoneAbove : ℕ → List ℕ → Type 0
+NoneAbove top u = (k b : ℕ) → k < 8 → top ≤ b → b < bins → get_or u (channel_len * k + (at_counts + b)) 0 ≡ 0
+
+abbrev pub EightSound : List ℕ → Type 0
+EightSound u = (k : ℕ) → k < 8 → sound_channel (chan_of (chan_in u k)) ≡ true
 
 -- ---- tallies of four channels, one after another
 
 -- the place of the tally in which the i-th entry of the k-th channel is counted
-abbrev pub cell_of : ℕ → List ℕ → ℕ → ℕ → ℕ
-cell_of from u i k = k * bins + get_or u (from + channel_len * k + i) 0
+abbrev pub cell_of : List ℕ → ℕ → ℕ → ℕ
+cell_of u i k = k * bins + get_or u (channel_len * k + i) 0
 
 abbrev pub raise : ℕ → ℕ → List ℕ → List ℕ
 raise w p t = set t p (get_or t p 0 + w)
 
 -- the i-th entry of each of four channels, counted as w
-abbrev pub row_counted : ℕ → ℕ → List ℕ → ℕ → List ℕ → List ℕ
-row_counted w from u i t = raise w (cell_of from u i 3) (raise w (cell_of from u i 2) (raise w (cell_of from u i 1) (raise w (cell_of from u i 0) t)))
+abbrev pub row_counted : ℕ → List ℕ → ℕ → List ℕ → List ℕ
+row_counted w u i t = raise w (cell_of u i 3) (raise w (cell_of u i 2) (raise w (cell_of u i 1) (raise w (cell_of u i 0) t)))
 
 -- to the tallies s the first n entries of each channel are added, each as w
-pub record Added (w n from : ℕ) (u s t : List ℕ) : Type 0 where
+pub record Added (w n : ℕ) (u s t : List ℕ) : Type 0 where
   pub long : length t ≡ 4 * bins
-  pub sums : (k b : ℕ) → k < 4 → b < bins → get_or t (k * bins + b) 0 ≡ get_or s (k * bins + b) 0 + w * occ b (take n (chan_at from u k))
+  pub sums : (k b : ℕ) → k < 4 → b < bins → get_or t (k * bins + b) 0 ≡ get_or s (k * bins + b) 0 + w * occ b (take n (chan_in u k))
 
 -- tallies of no more than the entries of one ring each
 pub record Few (t : List ℕ) : Type 0 where
@@ -50,13 +65,13 @@ pub record Clear (t : List ℕ) : Type 0 where
   pub long : length t ≡ 4 * bins
   pub none : (k b : ℕ) → k < 4 → b < bins → get_or t (k * bins + b) 0 ≡ 0
 
--- the tally of bin b is that of its count in the k-th channel at one place of the store, and in the k-th at another
-abbrev pub is_borne_out : List ℕ → ℕ → ℕ → List ℕ → ℕ → ℕ → Bool
-is_borne_out u first second t b k =
-    eqb (get_or u (first + channel_len * k + (at_counts + b)) 0 + 65536 * get_or u (second + channel_len * k + (at_counts + b)) 0) (get_or t (k * bins + b) 0)
+-- the tally of bin b is that of its count in the k-th of four channels, and in the k-th of four others
+abbrev pub is_borne_out : List ℕ → List ℕ → List ℕ → ℕ → ℕ → Bool
+is_borne_out first second t b k =
+    eqb (get_or first (channel_len * k + (at_counts + b)) 0 + 65536 * get_or second (channel_len * k + (at_counts + b)) 0) (get_or t (k * bins + b) 0)
 
-abbrev pub row_borne_out : List ℕ → ℕ → ℕ → List ℕ → ℕ → Bool
-row_borne_out u first second t b = all_below 4 (is_borne_out u first second t b)
+abbrev pub row_borne_out : List ℕ → List ℕ → List ℕ → ℕ → Bool
+row_borne_out first second t b = all_below 4 (is_borne_out first second t b)
 
 -- the tallies of bin b set back
 abbrev pub row_cleared : ℕ → List ℕ → List ℕ

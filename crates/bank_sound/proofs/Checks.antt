@@ -7,15 +7,13 @@ use native.Mathlib.Nat.{add-zero, zero-add}
 use native.Mathlib.Omega.{arith}
 use native.Mathlib.Numerals.{add-one}
 use lib.Dec.{eqb, ltb, leb}
-use mir.Val.{bool_byte}
 use lib.ListN.{length, get_or, take}
 use lib.Seq.{take-take}
 use borrow.Author.Tests.{eqb-true, eqb-false, eq-eqb, ne_eqb, ltb-true, leb-true}
 use Rattle.laws.specs.Lists.{one, occ, part}
 use Rattle.std.proofs.lemmas.Bool.Decides.{nat_tests}
 use Rattle.std.proofs.lemmas.List.{get_or-take}
-use Rattle.laws.proofs.Counting.{one-le, occ-all, occ-none}
-use Rattle.laws.proofs.Counts.{flag}
+use Rattle.laws.proofs.Counting.{occ-all, occ-none}
 use Rattle.laws.specs.Tests.{all_below}
 use Rattle.laws.proofs.Lists.{get_d_part}
 use Rattle.laws.proofs.Tests.{by-test, all-at, and_l, and_r, and-true, and-false-l, and_false_r}
@@ -25,20 +23,15 @@ use Rattle.bank_sound.specs.Fails.{fails, is_bin, stray_entries, is_first, other
 
 -- ---- failures counted
 
-fails_more : (n : ℕ) (p : ℕ → Bool) → fails (n + 1) p ≡ fails n p + one (not (p n))
+pub fails_more : (n : ℕ) (p : ℕ → Bool) → fails (n + 1) p ≡ fails n p + one (not (p n))
 unfolding fails
 fails_more n p = rw (add-one n)
 
-pub fails-le : (n : ℕ) (p : ℕ → Bool) → fails n p ≤ n
+-- two tests that agree below n
+pub fails_same : (n : ℕ) (p q : ℕ → Bool) → ((i : ℕ) → i < n → p i ≡ q i) → fails n p ≡ fails n q
 unfolding fails
-fails-le zero p = omega arith
-fails-le (suc n) p = omega (arith, fails-le n p, one-le (not (p n)))
-
--- a turn of a loop that counts failures in n turns
-pub count_turn : (n i x y : ℕ) (p : ℕ → Bool) (b : Bool) → i < n → x ≡ fails i p → y ≡ bool_byte b → b ≡ not (p i) → (x + y ≡ fails (i + 1) p) × (x + y ≤ n)
-count_turn n i x y p b h d e f =
-    let k : x + y ≡ fails (i + 1) p = ap₂ ◌+◌ d (e ∙ flag b ∙ ap one f) ∙ sym (fails_more i p) in
-    (k, omega (arith, k, fails-le (i + 1) p))
+fails_same zero p q h = refl
+fails_same (suc n) p q h = ap₂ ◌+◌ (fails_same n p q (λ i l. h i (omega arith))) (ap (λ (b : Bool). one (not b)) (h n (omega arith)))
 
 last-fails : (x : ℕ) (a b : Bool) → eqb x 0 ≡ a → eqb (x + one (not b)) 0 ≡ (a && b)
 last-fails x true true h = ap (λ (k : ℕ). eqb k 0) (add-zero x) ∙ h
@@ -52,7 +45,7 @@ unfolding fails all_below
 none-fails zero p = refl
 none-fails (suc n) p = last-fails (fails n p) (all_below n p) (p n) (none-fails n p)
 
--- two tests that agree below n
+-- the same of the test of all
 pub all_same : (n : ℕ) (p q : ℕ → Bool) → ((i : ℕ) → i < n → p i ≡ q i) → all_below n p ≡ all_below n q
 unfolding all_below
 all_same zero p q h = refl
@@ -103,25 +96,24 @@ pub all-step : (n : ℕ) (p : ℕ → Bool) → all_below (n + 1) p ≡ (all_bel
 unfolding all_below
 all-step n p = rw (add-one n)
 
--- ---- a turn of each loop, over what it takes of a channel
+-- ---- what each count takes of a channel
 
-not-below : (x n : ℕ) → leb n x ≡ not (ltb x n)
+pub not-below : (x n : ℕ) → leb n x ≡ not (ltb x n)
 not-below x n = grind (arith, nat_tests)
 
-pub stray_turn : (l : List ℕ) (i x y : ℕ) → i < ring_len → x ≡ fails i (is_bin l) → y ≡ bool_byte (leb bins (get_or (take ring_len l) i 0))
-    → (x + y ≡ fails (i + 1) (is_bin l)) × (x + y ≤ ring_len)
-stray_turn l i x y h d e =
-    count_turn ring_len i x y (is_bin l) (leb bins (get_or (take ring_len l) i 0)) h d e (ap (leb bins) (get_or-take ring_len l i 0 h) ∙ not-below (get_or l i 0) bins)
+pub stray_of : (l : List ℕ) (n : ℕ) → n ≡ ring_len → fails n (λ i. ltb (get_or (take ring_len l) i 0) bins) ≡ stray_entries l
+unfolding stray_entries
+stray_of l n e = rw e (fails_same ring_len _ (is_bin l) (λ i h. ap (λ (v : ℕ). ltb v bins) (get_or-take ring_len l i 0 h)))
 
-pub other_turn : (l : List ℕ) (n i x y : ℕ) → i < n → x ≡ fails i (is_first l) → y ≡ bool_byte (not (eqb (get_or (take n l) i 0) (get_or l 0 0)))
-    → (x + y ≡ fails (i + 1) (is_first l)) × (x + y ≤ n)
-other_turn l n i x y h d e =
-    count_turn n i x y (is_first l) (not (eqb (get_or (take n l) i 0) (get_or l 0 0))) h d e (ap (λ (v : ℕ). not (eqb v (get_or l 0 0))) (get_or-take n l i 0 h))
+pub other_of : (l : List ℕ) (m n : ℕ) → n ≡ m → fails n (λ i. eqb (get_or (take m l) i 0) (get_or l 0 0)) ≡ other_entries m l
+unfolding other_entries
+other_of l m n e = rw e (fails_same m _ (is_first l) (λ i h. ap (λ (v : ℕ). eqb v (get_or l 0 0)) (get_or-take m l i 0 h)))
 
-pub used_turn : (l : List ℕ) (i x y : ℕ) → i < bins → x ≡ fails i (is_unused l) → y ≡ bool_byte (not (eqb (get_or (part at_counts bins l) i 0) 0))
-    → (x + y ≡ fails (i + 1) (is_unused l)) × (x + y ≤ bins)
-used_turn l i x y h d e =
-    count_turn bins i x y (is_unused l) (not (eqb (get_or (part at_counts bins l) i 0) 0)) h d e (ap (λ (v : ℕ). not (eqb v 0)) (get_d_part at_counts bins l i 0 h))
+pub used_of : (l : List ℕ) (n : ℕ) → n ≡ bins → fails n (λ i. eqb (get_or (part at_counts bins l) i 0) 0) ≡ used_bins l
+unfolding used_bins
+used_of l n e = rw e (fails_same bins _ (is_unused l) (λ i h. ap (λ (v : ℕ). eqb v 0) (get_d_part at_counts bins l i 0 h)))
+
+-- ---- a turn of the recount
 
 pub tallied_turn : (l t : List ℕ) (i x y : ℕ) (a : Bool) → a ≡ all_below i (is_tallied l t) → x ≡ get_or l (at_counts + i) 0 → y ≡ get_or t i 0
     → (a && eqb x y) ≡ all_below (i + 1) (is_tallied l t)

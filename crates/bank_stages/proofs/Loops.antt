@@ -8,7 +8,7 @@ use lib.Dec.{eqb}
 use lib.ListN.{length, get_or, length-append}
 use lib.Ieee.{Float, nan}
 use Rattle.laws.specs.Lists.{part, splice, tab, joined}
-use Rattle.laws.proofs.Lists.{width, row, length_part, length-splice, get_d_part, get_d_past, get_d-before, part-past, part-before}
+use Rattle.laws.proofs.Lists.{width, row, length-splice, get_d_part, get_d_past, get_d-before, part-past, part-before}
 use Rattle.laws.proofs.Tabs.{get_d-tab, tab-same, tab-ext, tab-get_d, length-joined, map-tab, parts-turn}
 use Rattle.laws.proofs.Defaults.{get_d_any}
 use Rattle.block.specs.Seeds.{Seedable, Seeded, pushes_at, sum_at}
@@ -61,10 +61,8 @@ module _ (u : List ℕ) (f : List Float) (n : ℕ) (s : Fits u f n) (k : ℕ) (h
   pub lent-long : base n + channel_len * k + channel_len ≤ length u
   lent-long = omega (arith, s.long, row channel_len k n h)
 
-  pub lent : (l : List ℕ) → l ≡ chan_part n u k → (length l ≡ channel_len) × Sound ring_len bins (chan_of l)
-  lent l e =
-      subst (λ (p : List ℕ). (length p ≡ channel_len) × Sound ring_len bins (chan_of p)) (sym e)
-      (length_part (base n + channel_len * k) channel_len u lent-long, s.sound k h)
+  pub lent : (l : List ℕ) → l ≡ chan_part n u k → Sound ring_len bins (chan_of l)
+  lent l e = subst (λ (p : List ℕ). Sound ring_len bins (chan_of p)) (sym e) (s.sound k h)
 
 -- ---- what the loops leave is the step, encoded
 

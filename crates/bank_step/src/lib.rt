@@ -1,4 +1,6 @@
-// Document 01, "Block and bank step": one hop that is not refused, over the two lent stores of a sound bank.
+// Document 01, "Block and bank step": one hop that is not refused, over the two lent stores of a sound bank. That they are one's is `Ready`, a
+// clause and no type: it is a fact of both slices at once, so a type that carried it would be a struct of two `&mut`. So is that a hop's lists are as long
+// as the bank's n.
 #![tactic(auto)]
 
 ghost use Rattle.std.specs.Prelude.{◌≡◌, length, get_or};
@@ -49,7 +51,8 @@ fn advance(bank: &mut [u16])
     bank[2] = 1;
 }
 
-// One hop that is not refused. Two stores and no struct of them: behind a struct of `&mut` fields, passed by value, an ensures reads store.exit.0.now.
+// One hop that is not refused. Here and above two stores and no struct of them: behind a struct of `&mut` fields, passed by value, an ensures reads
+// store.exit.0.now. Nor is there one of a hop's two lists: (a) takes the one and (b) the other.
 pub fn take_hop(
     bank: &mut [u16],
     bank_f: &mut [f64],

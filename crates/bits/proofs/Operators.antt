@@ -1,17 +1,20 @@
 -- What `|`, `&` and `!` do bit by bit, bytes that are written, and the marks as the code gathers them. Assumes nothing.
 use mathlib.Core.Path.{◌≡◌, refl, sym, ap, ◌∙◌}
 use mathlib.Core.Bool.{Bool, false, not, ◌&&◌, ◌||◌}
-use mathlib.Core.List.{List}
+use mathlib.Core.List.{List, [], ◌∷◌}
 use Prim.Native.Nat.{ℕ, zero, suc, ◌+◌, ◌-◌, ◌*◌, ◌/◌, ◌%◌, ◌^◌, ◌<◌, ◌≤◌, min, max}
 use native.Mathlib.Nat.{pow-suc}
 use native.Mathlib.Omega.{arith}
 use lib.Dec.{eqb, ltb}
-use lib.ListN.{length, get_or, set}
+use lib.ListN.{length, get_or, set, length-append, get_or-append}
 use lib.Pow.{pow_pos}
 use lib.Seq.{get_or-set_same, get_or-set_other}
 use lib.Bits.{bit_and, bit_or, and_step, or_step}
+use Rattle.std.specs.List.{push}
+use Rattle.std.proofs.lemmas.List.{get_or_push}
+use Rattle.laws.specs.Lists.{one}
 use Rattle.laws.specs.Bits.{bit_at, number, byte, bit_of}
-use Rattle.laws.proofs.Bits.{low_of, rest_of, number-bits, number_same, bit-at}
+use Rattle.laws.proofs.Bits.{gather-turn, low_of, rest_of, number-bits, number_same, bit-at}
 
 -- ---- one digit
 
@@ -110,6 +113,25 @@ bits-other l a x k h = ap (λ (b : ℕ). bit_at b (k % 8)) (get_or-set_other l a
 -- mark k of a list is up
 abbrev pub mark : List ℕ → ℕ → Bool
 mark l k = eqb (get_or l k 0) 1
+
+-- one more of the marks of a list l is gathered, x, the last of those that were left
+module _ (l left rest : List ℕ) (x : ℕ) (e : left ≡ push rest x) (f : (i : ℕ) → i < length left → get_or left i 0 ≡ get_or l i 0) where
+  pub one_less : length left ≡ length rest + 1
+  one_less = omega (arith, ap length e, length-append rest (x ∷ []))
+
+  pub still_first : (i : ℕ) → i < length rest → get_or rest i 0 ≡ get_or l i 0
+  still_first i h = sym (get_or-append rest (x ∷ []) 0 i h) ∙ ap (λ (m : List ℕ). get_or m i 0) (sym e) ∙ f i (omega (arith, one_less))
+
+  last : x ≡ get_or l (length rest) 0
+  last = sym (get_or_push rest x 0 (length rest) refl) ∙ ap (λ (m : List ℕ). get_or m (length rest) 0) (sym e) ∙ f (length rest) (omega (arith, one_less))
+
+  pub joined : (b d : ℕ) → length left ≤ length l → b ≡ number (length l - length left) (λ j. mark l (length left + j)) → d ≡ one (eqb x 1)
+      → b * 2 + d ≡ number (length l - length rest) (λ j. mark l (length rest + j))
+  joined b d h s t =
+      gather-turn (mark l) (length l) (length rest + 1) b d (omega arith) (omega (arith, one_less))
+      (s ∙ ap (λ (k : ℕ). number (length l - k) (λ j. mark l (k + j))) one_less)
+      (t ∙ ap (λ (y : ℕ). one (eqb y 1)) (last ∙ ap (λ (k : ℕ). get_or l k 0) (let z : length rest ≡ length rest + 1 - 1 = omega arith in z)))
+      ∙ ap (λ (k : ℕ). number (length l - k) (λ j. mark l (k + j))) (let z : length rest + 1 - 1 ≡ length rest = omega arith in z)
 
 -- ---- the lowest bits
 

@@ -5,21 +5,21 @@ ghost use Rattle.std.specs.Prelude.{◌≡◌, ◌+◌, ◌-◌, ◌≤◌, eqb,
 ghost use Rattle.laws.specs.Bits.{number, byte};
 ghost use Rattle.laws.specs.Lists.{one};
 
-// Whether a mark is 1.
+// Whether a mark is 1, as the digit that is added below.
 fn is_one(mark: u8) -> u8
     ensures { result ≡ one (eqb mark 1) }
 {
     u8::from(mark == 1)
 }
 
-// The marks from..to, at most eight, as a number whose lowest bit is the first.
-pub fn gathered(marks: &[u8], from: usize, to: usize) -> u8
-    requires { (from ≤ to) × (to ≤ from + 8) × (to ≤ length marks.now) }
-    ensures { result ≡ number (to - from) (λ j. eqb (get_or marks.now (from + j) 0) 1) }
+// At most eight marks as a number whose lowest bit is the first of them: from the last one down, each in front of what is gathered so far.
+pub fn gathered(marks: &[u8]) -> u8
+    requires { length marks.now ≤ 8 }
+    ensures { result ≡ number (length marks.now) (λ j. eqb (get_or marks.now j 0) 1) }
 {
     let mut b: u8 = 0;
-    for k in (from..to).rev() {
-        b = b * 2 + is_one(marks[k]);
+    for &mark in marks.iter().rev() {
+        b = b * 2 + is_one(mark);
     }
     b
 }

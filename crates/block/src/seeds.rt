@@ -12,6 +12,7 @@ pub fn takes_seed(pushes: u16, med: f64) -> bool
     pushes < 25 && med >= HIST_MIN_DB
 }
 
+// A count, as the store has it: no number of a kind and no refusal.
 fn pushes_after(pushes: u16, med: f64) -> u16
     requires { pushes ≤ 25 }
     ensures { result ≡ pushes + one (takes_seed pushes med) }
@@ -29,7 +30,8 @@ fn sum_after(pushes: u16, sum: f64, med: f64) -> f64
     }
 }
 
-// One slow hop: each block's median is counted and added, while its seed is young.
+// One slow hop: each block's median is counted and added, while its seed is young. By the block's number: where its dB lie is worked out from it, and
+// both lists are written there.
 pub fn seed_blocks(seeds: &mut [u16], sums: &mut [f64], power_db: &[f64])
     requires { Seedable seeds.old sums.old power_db.now }
     ensures { Seeded seeds.old sums.old power_db.now seeds.new sums.new }

@@ -24,11 +24,11 @@ use Rattle.model.specs.GoodBank.{Ready}
 use Rattle.model.proofs.GoodBanks.{ready, channel-at}
 use Rattle.channel_readings.specs.Readable.{Readable}
 use Rattle.channel_readings.specs.Sources.{sources_at}
-use Rattle.channel_readings.specs.declared.Sources.{Sources}
+use Rattle.block.specs.declared.Sources.{Sources}
 
-pub from-ready : (u : List ℕ) (f : List Float) (k : ℕ) → Ready u f → k < get_or u 0 0 → Readable u f k
+pub from_ready : (u : List ℕ) (f : List Float) (k : ℕ) → Ready u f → k < get_or u 0 0 → Readable u f k
 unfolding bank_of
-from-ready u f k r h =
+from_ready u f k r h =
     record {
       below = h;
       high = r.good.high;
@@ -43,7 +43,7 @@ unfolding read_refusal
 readable u f k e =
     let t = neither (bank_refusal u f) _ e in
     let p = passed (not (ltb k (get_or u 0 0))) 7 0 (omega arith) t.1 in
-    from-ready u f k (ready u f t.0) (ltb-true k (get_or u 0 0) (not-false (ltb k (get_or u 0 0)) p.0))
+    from_ready u f k (ready u f t.0) (ltb-true k (get_or u 0 0) (not-false (ltb k (get_or u 0 0)) p.0))
 
 -- a float of the part of width w that starts at a
 pub float_at : (a w i : ℕ) (f : List Float) → a + w ≤ length f → i < w → get_or f (a + i) nan ≡ get_or (part a w f) i f0
@@ -99,6 +99,3 @@ module _ (u : List ℕ) (f : List Float) (k : ℕ) (r : Readable u f k) where
       → gathered u f k n B e ≡ sources_at (bank_of u f) k
   sources_read n B a e d b p h =
       rw (d, b, h, p, width (base N + channel_len * k) channel_len) sources-are
-
-pub block-below : (n k : ℕ) → k < n → k / block_channels < blocks n
-block-below n k h = omega arith

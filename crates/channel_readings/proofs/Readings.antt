@@ -1,16 +1,11 @@
 -- The two cases of a reading: its value, or the number of its refusal. Assumes nothing.
 use mathlib.Core.Path.{◌≡◌, refl, ap, ◌∙◌}
 use Prim.Native.Nat.{ℕ, zero, suc}
-use native.Mathlib.Omega.{arith}
-use Rattle.std.specs.Prelude.{Ok, Err, Result}
-use Rattle.std.proofs.lemmas.Grind.{common_steps}
+use Rattle.std.specs.Prelude.{Ok, Err}
 use Rattle.refusals.specs.Numbers.{number_of}
 use Rattle.refusals.specs.Readings.{reading}
 use Rattle.refusals.specs.declared.Refusal.{Refusal}
-
--- no refusal has the number of none
-pub refuses : (e : Refusal) → number_of e ≡ 0 → ⊥
-refuses e h = grind (arith, common_steps)
+use Rattle.refusals.proofs.Answers.{refuses}
 
 pub valued : {A : Type 0} (r : ℕ) (y x : A) → 0 ≡ r → y ≡ x → Ok y ≡ reading r x
 valued r y x h d = rw (← h) (ap Ok d)

@@ -4,7 +4,7 @@ use Rattle.model.specs.Layout.{block_channels}
 use Rattle.model.specs.Numbers.{f0}
 use Rattle.model.specs.Ring.{since}
 use Rattle.model.specs.Bank.{FloorBank, channel}
-use Rattle.channel_readings.specs.declared.Sources.{Sources}
+use Rattle.block.specs.declared.Sources.{Sources}
 
 unfoldable pub sources_at : FloorBank → ℕ → Sources
 sources_at b k =

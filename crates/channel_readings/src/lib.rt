@@ -5,71 +5,60 @@ ghost use Rattle.std.specs.Prelude.{◌≡◌, ◌+◌, ◌*◌, ◌≤◌, ◌<
 ghost use Rattle.model.specs.Layout.{ring_len, channel_len};
 ghost use Rattle.model.specs.Stores.{base, bank_len, bank_of};
 ghost use Rattle.model.specs.Readings.{effective_at, rise_at, floors_at, VeryPart};
-ghost use Rattle.channel_readings.specs.Readable.{Readable};
 ghost use Rattle.channel_readings.specs.Sources.{sources_at};
 
+mod lent;
+
+pub use block::Sources;
+pub use lent::Channel;
 use model::layout::{BLOCK_CHANNELS, CHANNEL_LEN, RING_LEN};
 
-// The numbers that a channel's effective and rise floor come from: its usable floor, its block's floor, its entries since the leading
-// silence, and its block's seed pushes and seed sum.
-#[derive(Clone, Copy)]
-pub struct Sources {
-    pub usable: f64,
-    pub block_floor: f64,
-    pub since: u16,
-    pub pushes: u16,
-    pub sum: f64,
-}
-
-#[tactic(auto, using(crate::proofs::Places::sound_part))]
-pub fn sources_at(bank: &[u16], bank_f: &[f64], k: usize) -> Sources
-    requires { Readable bank.now bank_f.now k }
-    ensures { result ≡ sources_at (bank_of bank.now bank_f.now) k }
-{
-    let n = usize::from(bank[0]);
-    let blocks = n.div_ceil(BLOCK_CHANNELS);
-    let i = k / BLOCK_CHANNELS;
-    let a = ring_start(bank, k);
-    let e = a + CHANNEL_LEN;
-    let since = ring::since(&bank[a..e]);
-    Sources {
-        usable: bank_f[n + k],
-        block_floor: bank_f[4 * n + i],
-        since: since,
-        pushes: bank[3 + i],
-        sum: bank_f[4 * n + blocks + i],
+impl Channel<'_> {
+    #[tactic(auto, using(crate::proofs::Places::sound_part))]
+    pub fn sources(&self) -> Sources
+        ensures { result ≡ sources_at (bank_of self.now.bank.now self.now.bank_f.now) self.now.k }
+    {
+        let n = usize::from(self.bank[0]);
+        let blocks = n.div_ceil(BLOCK_CHANNELS);
+        let i = self.k / BLOCK_CHANNELS;
+        let a = ring_start(self.bank, self.k);
+        let e = a + CHANNEL_LEN;
+        let since = ring::since(self.bank[a..e].as_array().unwrap());
+        Sources {
+            usable: self.bank_f[n + self.k],
+            block_floor: self.bank_f[4 * n + i],
+            since: since,
+            pushes: self.bank[3 + i],
+            sum: self.bank_f[4 * n + blocks + i],
+        }
     }
-}
 
-#[tactic(auto, unfolding(model::specs::Readings::effective_at, crate::specs::Sources::sources_at))]
-pub fn effective_at(bank: &[u16], bank_f: &[f64], k: usize) -> f64
-    requires { Readable bank.now bank_f.now k }
-    ensures { result ≡ effective_at (bank_of bank.now bank_f.now) k }
-{
-    let x = sources_at(bank, bank_f, k);
-    block::effective_floor(x.usable, x.block_floor, x.since, x.pushes, x.sum)
-}
+    #[tactic(auto, unfolding(model::specs::Readings::effective_at, crate::specs::Sources::sources_at))]
+    pub fn effective(&self) -> f64
+        ensures { result ≡ effective_at (bank_of self.now.bank.now self.now.bank_f.now) self.now.k }
+    {
+        block::effective_floor(self.sources())
+    }
 
-#[tactic(auto, using(crate::proofs::Places::rise_is))]
-pub fn rise_at(bank: &[u16], bank_f: &[f64], k: usize) -> f64
-    requires { Readable bank.now bank_f.now k }
-    ensures { result ≡ rise_at (bank_of bank.now bank_f.now) k }
-{
-    let n = usize::from(bank[0]);
-    bank_f[3 * n + k]
-}
+    #[tactic(auto, using(crate::proofs::Places::rise_is))]
+    pub fn rise(&self) -> f64
+        ensures { result ≡ rise_at (bank_of self.now.bank.now self.now.bank_f.now) self.now.k }
+    {
+        let n = usize::from(self.bank[0]);
+        self.bank_f[3 * n + self.k]
+    }
 
-#[tactic(auto, using(crate::proofs::Places::raw_is), unfolding(model::specs::Readings::floors_at))]
-pub fn floors_at(bank: &[u16], bank_f: &[f64], k: usize) -> model::Floors
-    requires { Readable bank.now bank_f.now k }
-    ensures { result ≡ floors_at (bank_of bank.now bank_f.now) k }
-{
-    let effective = effective_at(bank, bank_f, k);
-    let rise = rise_at(bank, bank_f, k);
-    model::Floors {
-        effective: effective,
-        rise: rise,
-        raw: bank_f[k],
+    #[tactic(auto, using(crate::proofs::Places::raw_is), unfolding(model::specs::Readings::floors_at))]
+    pub fn floors(&self) -> model::Floors
+        ensures { result ≡ floors_at (bank_of self.now.bank.now self.now.bank_f.now) self.now.k }
+    {
+        let effective = self.effective();
+        let rise = self.rise();
+        model::Floors {
+            effective: effective,
+            rise: rise,
+            raw: self.bank_f[self.k],
+        }
     }
 }
 

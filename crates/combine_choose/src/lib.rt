@@ -1,4 +1,5 @@
-// Document 02, R-8: of two antennas' pairs the one with the larger power.
+// Document 02, R-8: of two antennas' pairs the one with the larger power. What is chosen goes to two slices, as whoever calls has them: of a struct of two
+// `&mut` a clause would tell by a longer way.
 #![tactic(auto)]
 
 ghost use Rattle.std.specs.Prelude.{◌≡◌, cond, ◌+◌, ◌≤◌, length};

@@ -4,7 +4,8 @@
 ghost use Rattle.std.specs.Prelude.{◌≡◌, ◌*◌, ◌<◌};
 ghost use Rattle.cursors.specs.Cursors.{CursorFits, advanced_of, middle_from};
 
-// Where the windows of one length stand: its length, the place of the next sample and how many places are filled.
+// Where the windows of one length stand: its length, the place of the next sample and how many places are filled. That the three fit is a clause of what
+// steps it and no ghost field: `gate_cursors::cursor` reads one of any gate that is long enough, sound or not.
 #[derive(Clone, Copy)]
 pub struct Cursor {
     pub m: usize,
@@ -12,7 +13,7 @@ pub struct Cursor {
     pub filled: usize,
 }
 
-// A cursor handed back with the place of its middle sample.
+// A cursor handed back with the place of its middle sample: document 01 has a cursor's steps take it and give it back.
 #[derive(Clone, Copy)]
 pub struct Middle {
     pub cursor: Cursor,

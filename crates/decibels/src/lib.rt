@@ -8,21 +8,23 @@ ghost use Rattle.model.specs.Decibels.{rung_db, power_db, decibels};
 use model::layout::LADDER_MIN_DB;
 
 // Rung r in dB.
+#[tactic(auto, unfolding(model::specs::Decibels::rung_db))]
 fn rung_db(r: usize) -> f64
     requires { r < rung_count }
     ensures { result ≡ rung_db r }
 {
-    // No From leads to f64 from so wide a number.
+    // No From leads from usize to f64; that the value is exact, being below 2^53, is proved.
     LADDER_MIN_DB + r as f64 / 8.0
 }
 
-// The dB of a hop's powers, in front. The table of the ladder is written out once for all of them.
+// The dB of a hop's powers, in front of an array for any hop's, since there is no heap. The table of the ladder is written out once for all of them.
 pub fn hop_db(power: &[f32]) -> [f64; 512]
     requires { length power.now ≤ 512 }
     ensures { take (length power.now) result ≡ decibels power.now }
 {
     let rungs = rungs::table::rungs();
     let mut db = [0.0; 512];
+    // By the place, and not by a zip of `iter_mut` with the powers: of what such a zip writes a proof knows nothing.
     for (k, &p) in power.iter().enumerate() {
         let linear = powers::power_linear(p);
         let value = rung_db(rungs::highest_rung(&rungs, linear));

@@ -5,8 +5,7 @@ ghost use Rattle.std.specs.Prelude.{◌≡◌, ◌&&◌, ltb};
 ghost use Rattle.model.specs.Bank.{seed_of};
 ghost use Rattle.origins.specs.Origins.{later_of_min, later_of_max, seed_named, effective_origin, rise_origin};
 
-use block::{BLOCK_ALLOWANCE_DB, SEED_PUSHES};
-use channel_readings::Sources;
+use block::{BLOCK_ALLOWANCE_DB, SEED_PUSHES, Sources};
 use model::layout::RING_LEN_U16;
 use origins::{EffectiveOrigin, RiseOrigin};
 
@@ -53,7 +52,7 @@ pub fn effective_origin(x: Sources) -> EffectiveOrigin
 pub fn rise_origin(x: Sources) -> RiseOrigin
     ensures { result ≡ rise_origin x.usable x.block_floor x.since x.pushes x.sum }
 {
-    let effective = block::effective_floor(x.usable, x.block_floor, x.since, x.pushes, x.sum);
+    let effective = block::effective_floor(x);
     let risen = block::greatest(effective, x.block_floor);
     if seed_named(risen, x.since < RING_LEN_U16, x.pushes, x.sum) {
         RiseOrigin::Seed(block::seed(x.pushes, x.sum))

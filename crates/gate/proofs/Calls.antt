@@ -6,9 +6,6 @@ use Prim.Native.Nat.{ℕ, zero, suc}
 use native.Mathlib.Omega.{arith}
 use lib.ListN.{length, get_or}
 use lib.Ieee.{Float}
-use Rattle.std.proofs.lemmas.Grind.{common_steps}
-use Rattle.refusals.specs.Numbers.{number_of}
-use Rattle.refusals.specs.declared.Refusal.{Refusal}
 use Rattle.laws.specs.Tests.{differ}
 use Rattle.laws.proofs.Tests.{neither, passed, same_of, or_l, or_r}
 use Rattle.model.specs.Bank.{FloorBank}
@@ -25,10 +22,6 @@ use Rattle.gate_cursors.specs.Paired.{Paired, Marked}
 use Rattle.gate_cursors.proofs.Pairs.{paired}
 use Rattle.gate_step.specs.Steps.{Holds}
 use Rattle.gate.specs.Hops.{Keeps, Takes, Taken}
-
--- no refusal has the number of none
-pub refuses : (e : Refusal) → number_of e ≡ 0 → ⊥
-refuses e h = grind (arith, common_steps)
 
 -- ---- what a call that is not refused has shown
 

@@ -11,7 +11,8 @@ ghost use Rattle.gate.specs.Hops.{Keeps, Takes, Taken};
 
 use refusals::Refusal;
 
-// Slices and no struct of them: behind a struct of `&mut` an ensures reads store.exit.0.now, and C lends them one by one.
+// Here and below, slices and no struct of them: behind a struct of `&mut` an ensures reads store.exit.0.now, and C lends them one by one.
+
 // One hop that is not refused: the gate steps, its pairs are brought up to date (R-3), and it is judged.
 pub fn take_hop(
     bank: &[u16],

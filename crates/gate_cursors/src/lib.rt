@@ -25,7 +25,7 @@ pub fn put_cursor(gate: &mut [u16], j: usize, c: Cursor)
     ensures { gate.new ≡ set (set gate.old (6 + 3 * j + 1) c.at) (6 + 3 * j + 2) c.filled }
 {
     let at = 6 + 3 * j;
-    // What is cut to fewer bits here fits in them, which is proved.
+    // Casts, since no From leads from usize to 16 bits. What they cut is 0, which is proved.
     gate[at + 1] = c.at as u16;
     gate[at + 2] = c.filled as u16;
 }

@@ -1,4 +1,7 @@
-// The lengths that a gate is made with: whether making takes them, and how many floats the distinct ones ask.
+// The lengths that a gate is made with: whether making takes them, and how many floats the distinct ones ask. What is asked here of n and of the
+// lengths is what making tests first. A type of tested lengths would be made in the midst of its refusals, whose order is given: the test would hand it
+// out with its answer, and say in a clause more that it holds the lengths that were asked about. Lengths are told by their places, since what one adds
+// depends on those before it.
 #![tactic(auto)]
 
 ghost use Rattle.std.specs.Prelude.{◌≡◌, true, [], ◌≤◌, ◌<◌, length, get_or, take};

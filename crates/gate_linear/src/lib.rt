@@ -8,7 +8,8 @@ ghost use Rattle.model.specs.Decibels.{linear_gate_hop};
 
 use refusals::Refusal;
 
-// One hop's linear power of each channel, whose dB is worked out here.
+// One hop's linear power of each channel, whose dB is worked out here. The stores and both outputs come as C lends them, each a slice of its own,
+// and go on as they are to `gate::take_hop`.
 pub fn gate_update_linear(
     bank: &[u16],
     bank_f: &[f64],

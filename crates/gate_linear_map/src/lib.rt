@@ -8,7 +8,8 @@ ghost use Rattle.model.specs.Decibels.{linear_gate_hop};
 
 use refusals::Refusal;
 
-// One hop's linear power of each channel, whose dB is worked out here; then the flags of the marks are set.
+// One hop's linear power of each channel, whose dB is worked out here; then the flags of the marks are set. The stores and the marks are slices one
+// by one, as C lends them: of a struct that holds them by `&mut` the contract would say store.exit.0.now.
 pub fn gate_update_linear_map(
     bank: &[u16],
     bank_f: &[f64],
@@ -35,6 +36,6 @@ pub fn gate_update_linear_map(
     )?;
     let db = decibels::hop_db(power);
     gate::take_hop(bank, bank_f, gate, gate_f, &db[..n], power, rise, drop);
-    map_marks::set_marks(map, n, rise, drop);
+    map_marks::set_marks(map, rise, drop);
     Ok(())
 }

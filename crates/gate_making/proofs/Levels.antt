@@ -1,5 +1,5 @@
 -- Laws on a level as it is handed over and as the store has it. Assumes nothing.
-use mathlib.Core.Path.{◌≡◌, refl, sym, ap, subst, ◌∙◌}
+use mathlib.Core.Path.{◌≡◌, sym, ap, subst, ◌∙◌}
 use mathlib.Core.Bool.{true, false}
 use Prim.Native.Nat.{ℕ, suc, ◌-◌, ◌≤◌}
 use native.Mathlib.Omega.{arith}
@@ -8,9 +8,9 @@ use lib.Signed.{lt_z}
 use mir.Syntax.{w32}
 use mir.Val.{SFits, to_z, of_z}
 use mir.Facts.{to_z-of_z}
-use borrow.Author.Tests.{ltb-true, ltb-false, lt-ltb, le-ltb, le-leb, lt-leb, eq-eqb, ne_eqb}
+use borrow.Author.Tests.{ltb-true, ltb-false, lt-ltb, le-ltb, le-leb, lt-leb}
 use Rattle.laws.proofs.Tests.{clash}
-use Rattle.model.specs.GateCalls.{stored, absent}
+use Rattle.model.specs.GateCalls.{stored}
 
 pub too-low : (z : ℤ) → lt_z z (negsuc 799) ≡ true → 65535 ≡ stored z
 unfolding stored
@@ -47,9 +47,6 @@ module _ (z : ℤ) (f : SFits w32 z) where
     sum_fits = let r = in-range z h k in
         subst (SFits w32) (sym r.0) (record { sfits = omega arith })
 
-    pub sum-fits-read : SFits w32 (to_z w32 (of_z w32 z) +ℤ pos 800)
-    sum-fits-read = subst (λ (y : ℤ). SFits w32 (y +ℤ pos 800)) (sym read_back) sum_fits
-
     pub sum_is : to_z w32 (of_z w32 (to_z w32 (of_z w32 z) +ℤ pos 800)) ≡ pos (stored z)
     sum_is = ap (λ (y : ℤ). to_z w32 (of_z w32 (y +ℤ pos 800))) read_back ∙ to_z-of_z sum_fits ∙ (in-range z h k).0
 
@@ -57,13 +54,3 @@ module _ (z : ℤ) (f : SFits w32 z) where
 pub three-read : {X : Type 0} (F : ℤ → ℤ → ℤ → X) (a b c : ℤ) → SFits w32 a → SFits w32 b → SFits w32 c
     → F (to_z w32 (of_z w32 a)) (to_z w32 (of_z w32 b)) (to_z w32 (of_z w32 c)) ≡ F a b c
 three-read F a b c f g h = λ i. F (read_back a f i) (read_back b g i) (read_back c h i)
-
--- ---- an early, by its bits
-
-pub is-absent : (z : ℤ) → SFits w32 z → of_z w32 z ≡ 65535 → absent z ≡ true
-is-absent (pos x) f e = eq-eqb x 65535 e
-is-absent (negsuc x) f e = let g = f.sfits in absurd (omega arith)
-
-pub not-absent : (z : ℤ) → (of_z w32 z ≡ 65535 → ⊥) → absent z ≡ false
-not-absent (pos x) h = ne_eqb x 65535 h
-not-absent (negsuc x) h = refl

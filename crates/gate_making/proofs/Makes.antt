@@ -2,14 +2,14 @@
 use mathlib.Core.Path.{◌≡◌, refl, sym, ap, ap₂, ◌∙◌}
 use mathlib.Core.Bool.{Bool, true, false, not, ◌&&◌, ◌||◌}
 use mathlib.Core.List.{List, [], ◌∷◌, ◌++◌, append_assoc, append-nil, map}
-use Prim.Native.Nat.{ℕ, zero, suc, ◌+◌, ◌-◌, ◌*◌, ◌<◌, ◌≤◌}
+use Prim.Native.Nat.{ℕ, suc, ◌+◌, ◌-◌, ◌*◌, ◌<◌, ◌≤◌}
 use native.Mathlib.Nat.{add_assoc, add_comm}
 use native.Mathlib.Omega.{arith}
 use lib.ListN.{length, get_or, take, set, replicate, length-append, length-map, length-replicate, replicate-append-replicate}
 use lib.Ieee.{Float, nan, binary64, div, of_bits}
 use lib.IntN.{ℤ}
 use lib.Seq.{set_at}
-use borrow.Author.Tests.{eq-eqb, ne_eqb, not-false}
+use borrow.Author.Tests.{not-false}
 use Rattle.laws.specs.Lists.{part, splice, joined}
 use Rattle.laws.proofs.Lists.{splice-mid, length_part}
 use Rattle.laws.specs.Tests.{within, differ, first}
@@ -18,7 +18,7 @@ use Rattle.model.specs.Numbers.{f0}
 use Rattle.model.specs.Windows.{fresh_look}
 use Rattle.model.specs.Gate.{Gate, among, distinct, fresh_gate}
 use Rattle.model.specs.GateStores.{triple, gate_u16s, look_f, gate_floats, look_size}
-use Rattle.model.specs.GateCalls.{good_lengths, stored, good_level, absent, floats_for, gate_make_refusal, settings_of, gate_f_len_for, gate_leaves, gate_new_call}
+use Rattle.model.specs.GateCalls.{good_lengths, stored, good_level, absent, floats_for, gate_make_refusal, settings_of, gate_leaves, gate_new_call}
 use Rattle.bank_making.proofs.Makes.{joined-replicate}
 use Rattle.gate_lengths.specs.Makes.{floats_before, length_put, fresh_triple, fresh_u, with_lengths, fresh_f}
 use Rattle.gate_lengths.proofs.Distinct.{first_of, first_more, first-le, floats-cons}
@@ -32,11 +32,6 @@ triples-long (m ∷ ms) = omega (arith, triples-long ms)
 triples-snoc : (ms : List ℕ) (m : ℕ) → joined (map fresh_triple (ms ++ (m ∷ []))) ≡ joined (map fresh_triple ms) ++ fresh_triple m
 triples-snoc [] m = refl
 triples-snoc (x ∷ ms) m = ap (λ (r : List ℕ). x ∷ 0 ∷ 0 ∷ r) (triples-snoc ms m)
-
-pub fresh-long : (n on off early : ℕ) (ms : List ℕ) → length ms ≤ 8 → length (fresh_u n on off early ms) ≡ 30
-unfolding fresh_u
-fresh-long n on off early ms h =
-    omega (arith, length-append (joined (map fresh_triple ms)) (replicate (24 - 3 * length ms) 0), triples-long ms, length-replicate {A = ℕ} (24 - 3 * length ms) 0)
 
 pub fresh-count : (n on off early : ℕ) (ms : List ℕ) → get_or (fresh_u n on off early ms) 5 0 ≡ length ms
 unfolding fresh_u
@@ -179,54 +174,10 @@ pairs_put l n x y h d e =
     ∙ ap (splice (L - 2 * n) n x) y'
     ∙ pairs-put L n (div binary64 f0 f0) x h no_number d
 
--- ---- how long the f64 store must be
-
-module _ (n : ℕ) (l : List ℕ) where
-  pub off-band : within 1 512 n ≡ false → 0 ≡ gate_f_len_for n l
-  unfolding gate_f_len_for
-  off-band h = rw h
-
-  module _ (h : within 1 512 n ≡ true) where
-    pub bad-lengths : good_lengths l ≡ false → 0 ≡ gate_f_len_for n l
-    unfolding gate_f_len_for
-    bad-lengths g = rw (h, g)
-
-    pub floats-are : good_lengths l ≡ true → floats_for n (distinct [] l) ≡ gate_f_len_for n l
-    unfolding gate_f_len_for
-    floats-are g = rw (h, g)
-
 -- ---- the answer
 
 abbrev pub good_levels : ℤ → ℤ → ℤ → Bool
 good_levels on off early = good_level on && good_level off && (absent early || good_level early)
-
-module _ (u f n : ℕ) (on off early : ℤ) (l : List ℕ) where
-  pub refused-1 : within 1 512 n ≡ false → 1 ≡ gate_make_refusal u f n on off early l
-  unfolding gate_make_refusal
-  refused-1 h = rw h
-
-  module _ (h : within 1 512 n ≡ true) where
-    pub refused-3 : good_lengths l ≡ false → 3 ≡ gate_make_refusal u f n on off early l
-    unfolding gate_make_refusal
-    refused-3 g = rw (h, g)
-
-    module _ (g : good_lengths l ≡ true) where
-      pub refused-4 : good_levels on off early ≡ false → 4 ≡ gate_make_refusal u f n on off early l
-      unfolding gate_make_refusal
-      refused-4 s = rw (h, g, s)
-
-      module _ (s : good_levels on off early ≡ true) where
-        pub refused-2 : (u ≡ 30 → ⊥) → 2 ≡ gate_make_refusal u f n on off early l
-        unfolding gate_make_refusal
-        refused-2 k = rw (h, g, s, ne_eqb u 30 k)
-
-        pub refused-2-f : u ≡ 30 → (f ≡ floats_for n (distinct [] l) → ⊥) → 2 ≡ gate_make_refusal u f n on off early l
-        unfolding gate_make_refusal
-        refused-2-f e k = rw (h, g, s, eq-eqb u 30 e, ne_eqb f (floats_for n (distinct [] l)) k)
-
-        pub taken : u ≡ 30 → f ≡ floats_for n (distinct [] l) → 0 ≡ gate_make_refusal u f n on off early l
-        unfolding gate_make_refusal
-        taken e k = rw (h, g, s, eq-eqb u 30 e, eq-eqb f (floats_for n (distinct [] l)) k)
 
 -- what is known where making refuses nothing
 pub record Fits (u f n : ℕ) (l : List ℕ) : Type 0 where
@@ -252,17 +203,9 @@ fit u f n on off early l e =
       long_f = same_of f F (or_r (differ u 30) (differ f F) d.0);
     }
 
-left_alone : (r : ℕ) (g : Gate) (u : List ℕ) (f : List Float) → (r ≡ 0 → ⊥) → (r, u, f) ≡ gate_leaves r g u f
-left_alone zero g u f h = absurd (h refl)
-left_alone (suc r) g u f h = refl
-
 module _ (u : List ℕ) (f : List Float) (n : ℕ) (on off early : ℤ) (l : List ℕ) where
   abbrev made : Gate
   made = fresh_gate (settings_of n on off early l)
-
-  pub new-refused : (r : ℕ) → r ≡ gate_make_refusal (length u) (length f) n on off early l → (r ≡ 0 → ⊥) → (r, u, f) ≡ gate_new_call u f n on off early l
-  unfolding gate_new_call
-  new-refused r e h = left_alone r made u f h ∙ ap (λ (k : ℕ). gate_leaves k made u f) e
 
   pub new-made : 0 ≡ gate_make_refusal (length u) (length f) n on off early l → (0, gate_u16s made, gate_floats made) ≡ gate_new_call u f n on off early l
   unfolding gate_new_call

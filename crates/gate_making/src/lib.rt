@@ -1,4 +1,6 @@
-// A fresh gate: its settings, each distinct length with nothing pushed, the floats 0, no rise floor used yet.
+// A fresh gate: its settings, each distinct length with nothing pushed, the floats 0, no rise floor used yet. Its two stores are two slices, as C
+// lends them: both are written, and of a struct of them a clause would say store.exit.0.now. On, off and early come one by one, as C hands them: each
+// is tested and stored by itself, and no function requires anything of them.
 #![tactic(auto)]
 
 ghost use Rattle.std.specs.Prelude.{◌≡◌, true, ◌&&◌, ◌||◌, [], ◌-◌, ◌*◌, ◌<◌, ◌≤◌, length, get_or};
@@ -8,16 +10,18 @@ ghost use Rattle.refusals.specs.Numbers.{answer};
 ghost use Rattle.gate_lengths.specs.Makes.{length_put, with_lengths, fresh_u, fresh_f};
 ghost use Rattle.model.specs.GateCalls.{gate_f_len_for};
 
+use gate_sound::GATE_LEN;
 use refusals::Refusal;
 
-// A level as the store has it: 800 is added. 65535 for one that is out of range.
+// A level as the store has it: 800 is added. 65535 for one that is out of range: the store has no other sign for a level that is absent, and an early
+// of 65535 is one. So a number of 16 bits, and no Option.
 fn stored(level: i32) -> u16
     ensures { result ≡ stored_as level }
 {
     if level < -800 || level > 800 {
         return 65535;
     }
-    // What is cut to fewer bits here fits in them, which is proved.
+    // A cast, since no From leads from 32 bits to 16. What it cuts is 0, which is proved.
     (level + 800) as u16
 }
 
@@ -54,15 +58,15 @@ fn make_refusal(
     if !levels_good(on, off, early) {
         return Err(Refusal::Level);
     }
-    if u_len != 30 || f_len != gate_lengths::floats_for(n, lengths) {
+    if u_len != GATE_LEN || f_len != gate_lengths::floats_for(n, lengths) {
         return Err(Refusal::StoreSize);
     }
     Ok(())
 }
 
 // Length i takes the next triple, unless it was seen.
-fn put_length(gate: &mut [u16], lengths: &[u16], i: usize)
-    requires { (length gate.old ≡ 30) × (get_or gate.old 5 0 < 8) × (i < length lengths.now) }
+fn put_length(gate: &mut [u16; GATE_LEN], lengths: &[u16], i: usize)
+    requires { (get_or gate.old 5 0 < 8) × (i < length lengths.now) }
     ensures { gate.new ≡ length_put gate.old lengths.now i }
 {
     if gate_lengths::seen(lengths, i) {
@@ -73,7 +77,8 @@ fn put_length(gate: &mut [u16], lengths: &[u16], i: usize)
     gate[5] = count + 1;
 }
 
-fn put_lengths(gate: &mut [u16], lengths: &[u16])
+// By places: of each length it is asked whether it stands before its place.
+fn put_lengths(gate: &mut [u16; GATE_LEN], lengths: &[u16])
     requires { (gate.old ≡ with_lengths gate.old []) × (good_lengths lengths.now ≡ true) }
     ensures { gate.new ≡ with_lengths gate.old (distinct [] lengths.now) }
 {
@@ -82,8 +87,8 @@ fn put_lengths(gate: &mut [u16], lengths: &[u16])
     }
 }
 
-fn fresh_u(gate: &mut [u16], n: u16, on: u16, off: u16, early: u16, lengths: &[u16])
-    requires { (length gate.old ≡ 30) × (good_lengths lengths.now ≡ true) }
+fn fresh_u(gate: &mut [u16; GATE_LEN], n: u16, on: u16, off: u16, early: u16, lengths: &[u16])
+    requires { good_lengths lengths.now ≡ true }
     ensures { gate.new ≡ fresh_u n on off early (distinct [] lengths.now) }
 {
     gate.fill(0);
@@ -119,8 +124,8 @@ pub fn gate_new(
 {
     make_refusal(gate.len(), gate_f.len(), n, on, off, early, lengths)?;
     fresh_u(
-        gate,
-        // What is cut to fewer bits here fits in them, which is proved.
+        gate.as_mut_array().unwrap(),
+        // A cast, since no From leads from usize to 16 bits. What it cuts is 0, which is proved.
         n as u16,
         stored(on),
         stored(off),
@@ -131,7 +136,7 @@ pub fn gate_new(
     Ok(())
 }
 
-// How many f64 a gate of n channels and these lengths takes; 0 where making refuses them.
+// How many f64 a gate of n channels and these lengths takes; 0 where making refuses them, as the C interface says it.
 #[tactic(auto, unfolding(model::specs::GateCalls::gate_f_len_for))]
 pub fn gate_f_len(n: usize, lengths: &[u16]) -> usize
     ensures { result ≡ gate_f_len_for n lengths.now }

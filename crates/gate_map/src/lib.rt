@@ -7,7 +7,8 @@ ghost use Rattle.model.specs.MapCalls.{gate_update_map_call, gate_hold_map_call}
 
 use refusals::Refusal;
 
-// Slices and no struct of them: behind a struct of `&mut` an ensures reads store.exit.0.now, and C lends them one by one.
+// Slices and no struct of them: behind a struct of `&mut` an ensures reads store.exit.0.now, and C lends them one by one. So it is with a hop's two
+// slices and the two of marks, here and in the hold.
 // One hop's dB and linear power of each channel: the gate's own hop, and then the flags of its marks are set.
 pub fn gate_update_map(
     bank: &[u16],
@@ -34,7 +35,7 @@ pub fn gate_update_map(
         drop.len(),
     )?;
     gate::take_hop(bank, bank_f, gate, gate_f, power_db, power, rise, drop);
-    map_marks::set_marks(map, power.len(), rise, drop);
+    map_marks::set_marks(map, rise, drop);
     Ok(())
 }
 
@@ -52,6 +53,6 @@ pub fn gate_hold_map(
 {
     map_lent::hold_map_refusal(bank, bank_f, gate, gate_f, map, rise.len(), drop.len())?;
     gate::take_hold(bank, bank_f, gate, gate_f, rise, drop);
-    map_marks::set_marks(map, rise.len(), rise, drop);
+    map_marks::set_marks(map, rise, drop);
     Ok(())
 }

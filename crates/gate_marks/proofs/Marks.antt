@@ -1,6 +1,6 @@
 -- What the gate marks of a channel, from its stores. Assumes nothing.
 use mathlib.Core.Path.{◌≡◌, refl, sym, ap, ap₂, ◌∙◌}
-use mathlib.Core.Bool.{Bool, true, false, not, ◌&&◌, ◌||◌}
+use mathlib.Core.Bool.{Bool, false, not, ◌&&◌, ◌||◌}
 use mathlib.Core.List.{List}
 use Prim.Native.Nat.{ℕ, ◌+◌, ◌-◌, ◌<◌}
 use native.Mathlib.Nat.{zero-add}
@@ -8,8 +8,7 @@ use native.Mathlib.Numerals.{add-one}
 use native.Mathlib.Omega.{arith}
 use lib.Dec.{eqb}
 use lib.ListN.{length, get_or}
-use lib.IntN.{pos}
-use lib.Ieee.{Float, nan, binary64, add, le, lt, of_bits, of_int}
+use lib.Ieee.{Float, nan, binary64, add, le, lt}
 use borrow.Author.Tests.{eq-eqb, ne_eqb}
 use Rattle.laws.specs.Lists.{part, tab, one}
 use Rattle.laws.specs.Tests.{any_below}
@@ -89,15 +88,7 @@ module _ (u : List ℕ) (f : List Float) where
     all_tested j n e =
         tab-ext n _ _ (λ k _. ap (λ (b : Bool). marked (get_or l₀ k 0) b) (ap (λ (i : ℕ). any_below i (rises k)) e ∙ window-is k))
 
--- ---- early rise as a number
-
-pub no-mark : of_bits binary64 0 ≡ of_int binary64 (pos (one false))
-unfolding of_bits of_int
-no-mark = refl
-
-pub a-mark : of_bits binary64 0x3ff0_0000_0000_0000 ≡ of_int binary64 (pos (one true))
-unfolding of_bits of_int
-a-mark = refl
+-- ---- early rise alone
 
 -- s is the header's started
 pub before-first : (s : ℕ) (e : Bool) → s ≡ 0 → false ≡ (not (eqb s 0) && e)

@@ -12,8 +12,10 @@ ghost use Rattle.model.specs.GoodGate.{GateReady};
 ghost use Rattle.window_rises.specs.Marking.{marked};
 ghost use Rattle.gate_cursors.specs.Paired.{Paired, Marked};
 
+use channel_readings::Channel;
 use gate_cursors::cursor;
 
+// What a gate's store, of u16 alone, holds where it has no level for an early rise.
 const ABSENT: u16 = 65535;
 
 pub fn early_rise(early: u16, smoothed: f64, effective: f64) -> bool
@@ -29,6 +31,9 @@ fn drop_at(off: f64, smoothed: f64, effective: f64) -> bool
     smoothed < effective + off
 }
 
+// The stores come as two slices each, as C lends them. A struct of the four with `Paired` in it would be made by `judge` for `mark_levels`
+// alone, and one of the gate's two for `mark_windows`; and `rise` and `drop` are written: behind a struct of `&mut` a clause would read
+// marks.exit.rise.now. So their length stands with each.
 // What the smoothed dB says: the early rise, and the drop.
 fn mark_levels(
     bank: &[u16],
@@ -43,8 +48,9 @@ fn mark_levels(
 {
     let early = gate[4];
     let off = gate_pairs::level(gate[3]);
+    // By channels: where a channel's numbers lie in the bank is worked out from k.
     for k in 0..rise.len() {
-        let effective = channel_readings::effective_at(bank, bank_f, k);
+        let effective = Channel { bank, bank_f, k }.effective();
         let smoothed = gate_f[k];
         rise[k] = u8::from(early_rise(early, smoothed, effective));
         drop[k] = u8::from(drop_at(off, smoothed, effective));
@@ -62,6 +68,7 @@ fn mark_windows(gate: &[u16], gate_f: &[f64], rise: &mut [u8])
     let end = gate_f.len();
     let thresholds = end - n;
     let mut at = n;
+    // By the number of a length, which says where its cursor stands; its floats begin where those of the length before end.
     for j in 0..lengths {
         let c = cursor(gate, j);
         let m = c.m;
@@ -71,30 +78,13 @@ fn mark_windows(gate: &[u16], gate_f: &[f64], rise: &mut [u8])
     }
 }
 
-// The marks of each channel of a gate that has started. Early rise is the cheaper test and comes first.
-fn mark(
-    bank: &[u16],
-    bank_f: &[f64],
-    gate: &[u16],
-    gate_f: &[f64],
-    rise: &mut [u8],
-    drop: &mut [u8],
-)
-    requires paired { Paired bank.now bank_f.now gate.now gate_f.now × (length rise.old ≡ get_or gate.now 0 0) × (length drop.old ≡ get_or gate.now 0 0) }
-    requires fact { get_or gate.now 1 0 ≡ 0 → ⊥ }
-    ensures { Marked (gate_of gate.now gate_f.now) (bank_of bank.now bank_f.now) rise.new drop.new }
-{
-    mark_levels(bank, bank_f, gate, gate_f, rise, drop);
-    mark_windows(gate, gate_f, rise);
-}
-
 fn clear(marks: &mut [u8])
     ensures { marks.new ≡ tab (length marks.old) (λ k. 0) }
 {
     marks.fill(0);
 }
 
-// Before the first update nothing rises and nothing drops.
+// Before the first update nothing rises and nothing drops. After it early rise is the cheaper test and comes first.
 pub fn judge(
     bank: &[u16],
     bank_f: &[f64],
@@ -110,6 +100,7 @@ pub fn judge(
         clear(rise);
         clear(drop);
     } else {
-        mark(bank, bank_f, gate, gate_f, rise, drop);
+        mark_levels(bank, bank_f, gate, gate_f, rise, drop);
+        mark_windows(gate, gate_f, rise);
     }
 }

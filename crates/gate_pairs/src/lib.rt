@@ -38,6 +38,9 @@ fn renew_all(pairs: &mut [f64], rise: &[f64], on: f64)
     }
 }
 
+// Bank and gate come as two slices each, one of u16 and one of f64, as C lends them. Of the four a call writes one alone, and a struct that held
+// it as `&mut` would be read in a clause by store.exit.0.now.
+
 // Every channel's pair is brought up to date with the stored rise floors.
 pub fn refresh(bank: &[u16], bank_f: &[f64], gate: &[u16], gate_f: &mut [f64])
     requires { Paired bank.now bank_f.now gate.now gate_f.old }

@@ -1,13 +1,13 @@
 -- Laws on the lengths of the gate's stores and on its refusals, each from the tests that lead to it. Assumes nothing.
 use mathlib.Core.Path.{◌≡◌, refl, ◌∙◌}
-use mathlib.Core.Bool.{Bool, true, false, not, ◌&&◌, ◌||◌}
+use mathlib.Core.Bool.{Bool, true, not, ◌&&◌, ◌||◌}
 use mathlib.Core.List.{List}
 use Prim.Native.Nat.{ℕ, ◌*◌, ◌<◌, ◌≤◌}
 use native.Mathlib.Omega.{arith}
 use lib.Dec.{eqb, ltb, leb}
 use lib.ListN.{length, get_or}
 use lib.Ieee.{Float}
-use borrow.Author.Tests.{eq-eqb, ne_eqb, lt-ltb}
+use borrow.Author.Tests.{lt-ltb}
 use Rattle.laws.specs.Tests.{all_below, within, differ, first}
 use Rattle.laws.proofs.Tests.{and_l, and_r, all-at, passed, same_of, within_of}
 use Rattle.model.specs.GateStores.{m_at, cursor_at, filled_at, gate_f_len, sound_level, sound_triple, new_length, sound_triples, sound_head, sound_gate}
@@ -60,25 +60,7 @@ sized u h =
 
 -- ---- the gate
 
-module _ (u : List ℕ) (f : List Float) where
-  pub not-thirty : (length u ≡ 30 → ⊥) → 2 ≡ gate_refusal u f
-  unfolding gate_refusal
-  not-thirty h = rw (ne_eqb (length u) 30 h)
-
-  module _ (h : length u ≡ 30) where
-    pub unsound : sound_gate u ≡ false → 9 ≡ gate_refusal u f
-    unfolding gate_refusal
-    unsound s = rw (eq-eqb (length u) 30 h, s)
-
-    pub misfit : sound_gate u ≡ true → (length f ≡ gate_f_len u → ⊥) → 2 ≡ gate_refusal u f
-    unfolding gate_refusal
-    misfit s k = rw (eq-eqb (length u) 30 h, s, ne_eqb (length f) (gate_f_len u) k)
-
-    pub fits : sound_gate u ≡ true → length f ≡ gate_f_len u → 0 ≡ gate_refusal u f
-    unfolding gate_refusal
-    fits s k = rw (eq-eqb (length u) 30 h, s, eq-eqb (length f) (gate_f_len u) k)
-
-  -- a gate that is not refused has its header
-  pub thirty : gate_refusal u f ≡ 0 → length u ≡ 30
-  unfolding gate_refusal
-  thirty e = same_of (length u) 30 (passed (differ (length u) 30) 2 (first (not (sound_gate u)) 9 (first (differ (length f) (gate_f_len u)) 2 0)) (omega arith) e).0
+-- a gate that is not refused has its header
+pub thirty : (u : List ℕ) (f : List Float) → gate_refusal u f ≡ 0 → length u ≡ 30
+unfolding gate_refusal
+thirty u f e = same_of (length u) 30 (passed (differ (length u) 30) 2 (first (not (sound_gate u)) 9 (first (differ (length f) (gate_f_len u)) 2 0)) (omega arith) e).0

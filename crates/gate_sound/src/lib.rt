@@ -5,6 +5,9 @@ ghost use Rattle.std.specs.Prelude.{◌≡◌, true, ◌||◌, ◌≤◌, ◌<�
 ghost use Rattle.model.specs.GateStores.{m_at, look_size, gate_f_len, sound_level, sound_triple, sound_triples, new_length, sound_head, sound_gate};
 ghost use Rattle.gate_sound.specs.Checks.{unused_triple, sound_length};
 
+// How long a gate's u16 store is: six settings, and eight triples.
+pub const GATE_LEN: usize = 30;
+
 fn early_sound(early: u16) -> bool
     ensures { result ≡ (eqb early 65535 || sound_level early) }
 {
@@ -24,6 +27,7 @@ fn head_sound(n: u16, started: u16, on: u16, off: u16, early: u16, count: u16) -
         && count <= 8
 }
 
+// A triple goes as three numbers to this test or to the next: a struct of them would be made from the store for that one call.
 fn triple_sound(m: u16, cursor: u16, filled: u16) -> bool
     ensures { result ≡ sound_triple m cursor filled }
 {
@@ -37,22 +41,16 @@ fn unused(m: u16, cursor: u16, filled: u16) -> bool
 }
 
 // None of the lengths before length j equals it.
-fn new_length(gate: &[u16], j: usize) -> bool
-    requires { (length gate.now ≡ 30) × (j < 8) }
+fn new_length(gate: &[u16; GATE_LEN], j: usize) -> bool
+    requires { j < 8 }
     ensures { result ≡ new_length (m_at gate.now) j }
 {
-    let m = gate[6 + 3 * j];
-    for i in 0..j {
-        if gate[6 + 3 * i] == m {
-            return false;
-        }
-    }
-    true
+    (0..j).all(|i| gate[6 + 3 * i] != gate[6 + 3 * j])
 }
 
 #[tactic(auto, unfolding(crate::specs::Checks::sound_length))]
-fn length_sound(gate: &[u16], j: usize) -> bool
-    requires { (length gate.now ≡ 30) × (j < 8) }
+fn length_sound(gate: &[u16; GATE_LEN], j: usize) -> bool
+    requires { j < 8 }
     ensures { result ≡ sound_length gate.now j }
 {
     let m = gate[6 + 3 * j];
@@ -65,27 +63,20 @@ fn length_sound(gate: &[u16], j: usize) -> bool
     }
 }
 
-fn triples_sound(gate: &[u16]) -> bool
-    requires { length gate.now ≡ 30 }
+fn triples_sound(gate: &[u16; GATE_LEN]) -> bool
     ensures { result ≡ sound_triples gate.now }
 {
-    for j in 0..8 {
-        if !length_sound(gate, j) {
-            return false;
-        }
-    }
-    true
+    (0..8).all(|j| length_sound(gate, j))
 }
 
 #[tactic(auto, unfolding(model::specs::GateStores::sound_gate))]
-pub fn gate_sound(gate: &[u16]) -> bool
-    requires { length gate.now ≡ 30 }
+pub fn gate_sound(gate: &[u16; GATE_LEN]) -> bool
     ensures { result ≡ sound_gate gate.now }
 {
     head_sound(gate[0], gate[1], gate[2], gate[3], gate[4], gate[5]) && triples_sound(gate)
 }
 
-// The floats of a length m over n channels.
+// The floats of a length m over n channels. How many channels and how long is asked of the caller, whose tests of the store or of a making found it.
 pub fn look_size(n: usize, m: usize) -> usize
     requires { (n ≤ 512) × (m ≤ 375) }
     ensures { (result ≡ look_size n m) × (result ≤ 385024) }
@@ -93,9 +84,10 @@ pub fn look_size(n: usize, m: usize) -> usize
     2 * m * n + n + n
 }
 
-// The floats of a sound gate: the smoothed dB, the lengths, and the pairs (R-3).
-pub fn f_len(gate: &[u16]) -> usize
-    requires { (length gate.now ≡ 30) × (sound_gate gate.now ≡ true) }
+// The floats of a sound gate: the smoothed dB, the lengths, and the pairs (R-3). By numbers of lengths, from which the place of each follows. The
+// invariant bounds what the turns so far have added; a sum over a chain would be asked beforehand that the whole fits.
+pub fn f_len(gate: &[u16; GATE_LEN]) -> usize
+    requires { sound_gate gate.now ≡ true }
     ensures { result ≡ gate_f_len gate.now }
 {
     let n = usize::from(gate[0]);

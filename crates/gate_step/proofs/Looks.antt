@@ -8,13 +8,12 @@ use lib.ListN.{length, get_or, take, drop, set, replicate, length-drop, take-app
 use lib.Seq.{take_all, drop-drop, get_or-drop, take-set-le, drop-set-add}
 use lib.Ieee.{Float}
 use Rattle.laws.specs.Lists.{part, splice, tab, joined}
-use Rattle.laws.proofs.Lists.{length_part, length-splice, get_d-before, get_d_past, splice-mid}
-use Rattle.laws.proofs.Tabs.{length-tab, map-tab, length-joined, parts-begin, parts-turn}
-use Rattle.laws.proofs.Runs.{replaced, run-upto, run-begins, run_long, run_lent, run-turns}
+use Rattle.laws.proofs.Lists.{length-splice, get_d_past, splice-mid}
+use Rattle.laws.proofs.Tabs.{length-tab, map-tab, length-joined, parts-turn}
+use Rattle.laws.proofs.Runs.{replaced, run-upto, run_long, run_lent, run-turns}
 use Rattle.model.specs.Windows.{PowerLooks, step_look}
 use Rattle.model.specs.Gate.{Gate}
-use Rattle.model.specs.GateStores.{triple, gate_u16s, gate_floats, m_at, cursor_at, filled_at, look_f, look_of, gate_of}
-use Rattle.model.proofs.WindowStores.{look-forth}
+use Rattle.model.specs.GateStores.{triple, gate_u16s, gate_floats, m_at, look_f, gate_of}
 use Rattle.model.specs.GoodGate.{GoodLook, GoodGate, GateReady}
 use Rattle.model.proofs.GateStores.{gate-forth-u, gate-forth-f, look_in, start_at, size_at, starts-meet, header, zeros-forth, pairs-forth}
 use Rattle.model.proofs.GoodGates.{looks-of, smooth-of, used-of, threshold-of, gate-back, good-gate-ready, sizes, look-good, look-fits, length-look_f}
@@ -50,13 +49,6 @@ set-triple a l c t h =
     ∙ set-three (drop a l) c t (omega (arith, length-drop a l))
     ∙ ap (λ (m : ℕ). m ∷ c ∷ t ∷ drop 3 (drop a l)) (get_or-drop a l 0 0 ∙ ap (λ (k : ℕ). get_or l k 0) (add-zero a)))
 
-module _ (u : List ℕ) (f : List Float) (S : PowerLooks → PowerLooks) where
-  pub looks-begin-f : f ≡ looks_f u f S 0
-  looks-begin-f = run-begins (start_at u) f (λ j. look_f (S (look_in u f j)))
-
-  pub looks-begin-u : u ≡ looks_u u f S 0
-  looks-begin-u = parts-begin 6 3 u (λ j. triple (S (look_in u f j)))
-
 module _ (u : List ℕ) (f : List Float) (S : PowerLooks → PowerLooks) (r : GateReady u f) (s : Steady u f S) (k : ℕ) where
   smooth-fits : start_at u 0 ≤ length f
   smooth-fits = let z = look-fits u f 0 r (sizes u f r).some in omega (arith, z)
@@ -76,18 +68,7 @@ module _ (u : List ℕ) (f : List Float) (S : PowerLooks → PowerLooks) (r : Ga
   looks-lent h =
       run_lent (start_at u) (size_at u) k (size_at u k) f (λ j. look_f (S (look_in u f j))) (starts-meet u k) (λ j l. s.long j (omega arith)) smooth-fits
 
-  pub looks-lent-is : k < get_or u 5 0 → part (start_at u k) (size_at u k) (looks_f u f S k) ≡ look_f (look_in u f k)
-  looks-lent-is h =
-      looks-lent h
-      ∙ sym
-      (look-forth (get_or u 0 0) (m_at u k) (cursor_at u k) (filled_at u k) (part (start_at u k) (size_at u k) f)
-      (length_part (start_at u k) (size_at u k) f (look-fits u f k r h)))
-
-  -- and so are the entries before the triples ..
-  pub looks-head : (i : ℕ) → i < 6 → get_or (looks_u u f S k) i 0 ≡ get_or u i 0
-  looks-head i h = get_d-before 6 (3 * k) u (joined (tab k (λ j. triple (S (look_in u f j))))) i 0 h (omega (arith, r.long))
-
-  -- .. and from the triple k on
+  -- and so are the entries from the triple k on
   pub looks-ahead : (i : ℕ) → 6 + 3 * k ≤ i → get_or (looks_u u f S k) i 0 ≡ get_or u i 0
   looks-ahead i h =
       get_d_past 6 (3 * k) u (joined (tab k (λ j. triple (S (look_in u f j))))) i 0 (length-joined 3 k (λ j. triple (S (look_in u f j))) (λ j l. refl)) (omega (arith, r.long)) h
@@ -137,26 +118,6 @@ module _ (u : List ℕ) (f : List Float) (S : PowerLooks → PowerLooks) (r : Ga
           drop-drop (3 * C) 6 u
           ∙ sym (take_all (24 - 3 * C) (drop (6 + 3 * C) u) (omega (arith, length-drop (6 + 3 * C) u, r.long)))
           ∙ sym (zeros-forth u (6 + 3 * C) (24 - 3 * C) (omega (arith, r.long, (sizes u f r).few)) (λ i h l. r.unused i h (omega (arith, (sizes u f r).few))))
-
--- ---- one turn as the code has it: l is what was left, a the place, w the width and x what came back
-
-module _ (u : List ℕ) (f : List Float) (S : PowerLooks → PowerLooks) (r : GateReady u f) (s : Steady u f S) (k : ℕ) (h : k < get_or u 5 0) where
-  -- the windows that are lent are the gate's
-  pub looks-lent-look : (a w : ℕ) (v : List ℕ) (l : List Float) → a ≡ start_at u k → w ≡ size_at u k → v ≡ looks_u u f S k → l ≡ looks_f u f S k
-      → look_of (get_or u 0 0) (m_at v k) (cursor_at v k) (filled_at v k) (part a w l) ≡ look_in u f k
-  looks-lent-look a w v l ea ew ev el =
-      (λ i. look_of (get_or u 0 0) (m_at (ev i) k) (cursor_at (ev i) k) (filled_at (ev i) k) (part (ea i) (ew i) (el i)))
-      ∙ (λ i.
-      look_of (get_or u 0 0) (looks-ahead u f S r s k (6 + 3 * k) (omega arith) i) (looks-ahead u f S r s k (6 + 3 * k + 1) (omega arith) i)
-      (looks-ahead u f S r s k (6 + 3 * k + 2) (omega arith) i) (looks-lent u f S r s k h i))
-
-  pub looks-next-f : (a w : ℕ) (l x : List Float) → a ≡ start_at u k → w ≡ size_at u k → l ≡ looks_f u f S k → x ≡ look_f (S (look_in u f k))
-      → splice a w l x ≡ looks_f u f S (k + 1)
-  looks-next-f a w l x ea ew el ex = (λ i. splice (ea i) (ew i) (el i) (ex i)) ∙ looks-turn-f u f S r s k h
-
-  pub looks-next-u : (a c t : ℕ) (l : List ℕ) → a ≡ 6 + 3 * k → l ≡ looks_u u f S k → c ≡ (S (look_in u f k)).cursor → t ≡ (S (look_in u f k)).filled
-      → set (set l (a + 1) c) (a + 2) t ≡ looks_u u f S (k + 1)
-  looks-next-u a c t l ea el ec et = (λ i. set (set (el i) (ea i + 1) (ec i)) (ea i + 2) (et i)) ∙ looks-turn-u u f S r s k h
 
 pub steady : (u : List ℕ) (f : List Float) (S : PowerLooks → PowerLooks) → GateReady u f → ((l : PowerLooks) → (S l).m ≡ l.m)
     → ((l : PowerLooks) → GoodLook (get_or u 0 0) l → GoodLook (get_or u 0 0) (S l)) → Steady u f S

@@ -13,7 +13,7 @@ use Rattle.model.specs.GateStores.{gate_u16s, gate_floats, gate_of}
 use Rattle.model.specs.GoodGate.{GoodGate, GateReady}
 use Rattle.model.proofs.GoodGates.{n-of, started_of, smooth-of}
 use Rattle.model.proofs.FreshGates.{with_started, smooth_after, good-smooth}
-use Rattle.gate_step.proofs.Looks.{put-smooth, holds-u, holds-f, held-ready, held-is}
+use Rattle.gate_step.proofs.Looks.{put-smooth, put-started, holds-u, holds-f, held-ready, held-is}
 use Rattle.gate_step.proofs.Samples.{samples-step}
 use Rattle.gate_step.specs.Steps.{Holds, with, smooth_step, looks_step}
 
@@ -74,4 +74,4 @@ module _ (u : List ℕ) (f : List Float) (r : GateReady u f) (db f₁ : List Flo
       let whole : with_started (looks_step samples (gate_of u f₁)) 1 ≡ gate_step (gate_of u f) db power =
       ap (λ (g : Gate). with_started (looks_step samples g) 1) same
       ∙ steps-are (gate_of u f) db samples power (e ∙ ap (λ (n : ℕ). tab n (sample_of power)) (sym (n-of u f))) in
-      record { u16s = ap (λ (l : List ℕ). set l 1 1) h.u16s ∙ ap gate_u16s whole; floats = h.floats ∙ ap gate_floats whole }
+      record { u16s = ap (λ (l : List ℕ). set l 1 1) h.u16s ∙ put-started (looks_step samples (gate_of u f₁)) 1 ∙ ap gate_u16s whole; floats = h.floats ∙ ap gate_floats whole }

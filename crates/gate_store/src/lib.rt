@@ -1,4 +1,6 @@
 // Document 01, "Stores", the gate's half: the test of a lent gate, and the refusals in their order.
+// Each store is two slices, as C lends them: a struct of the two would have to be made before each test, and say nothing that the test doesn't find.
+// So it is with the lengths of a hop's slices: four numbers, each from another slice.
 #![tactic(auto)]
 
 ghost use Rattle.std.specs.Prelude.{◌≡◌};
@@ -6,6 +8,7 @@ ghost use Rattle.refusals.specs.Numbers.{answer};
 ghost use Rattle.model.specs.GateCalls.{gate_refusal, pair_refusal, gate_update_refusal, hold_refusal};
 ghost use Rattle.gate_sound.specs.Checks.{two_long, four_long, channel_refusal, smoothed_refusal, early_refusal};
 
+use gate_sound::GATE_LEN;
 use refusals::Refusal;
 
 // Whether the lent stores are a gate.
@@ -13,9 +16,9 @@ use refusals::Refusal;
 pub fn gate_refusal(gate: &[u16], gate_f: &[f64]) -> Result<(), Refusal>
     ensures { answer result ≡ gate_refusal gate.now gate_f.now }
 {
-    if gate.len() != 30 {
+    let Some(gate) = gate.as_array::<GATE_LEN>() else {
         return Err(Refusal::StoreSize);
-    }
+    };
     if !gate_sound::gate_sound(gate) {
         return Err(Refusal::Unsound);
     }
@@ -25,7 +28,8 @@ pub fn gate_refusal(gate: &[u16], gate_f: &[f64]) -> Result<(), Refusal>
     Ok(())
 }
 
-// Whether they are a bank and a gate of as many channels.
+// Whether they are a bank and a gate of as many channels. `worst_store` has the like of another store: one function for both would take the
+// second store's test as a closure, and say its own contract by the closure's.
 #[tactic(auto, using(stores::proofs::Banks::at_least_three, gate_sound::proofs::Sizes::thirty), unfolding(model::specs::GateCalls::pair_refusal))]
 pub fn pair_refusal(
     bank: &[u16],

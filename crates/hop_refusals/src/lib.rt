@@ -27,7 +27,8 @@ pub fn garbled(power_db: &[f64]) -> bool
     power_db[..end].iter().any(|db| db.is_nan())
 }
 
-// Whether a hop at this phase suits a bank of n channels.
+// Whether a hop at this phase suits a bank of n channels. dB and power are two slices, of any lengths: that they are as long as one another is tested
+// here and not known before, so no type can say it.
 pub fn hop_refusal(n: usize, phase: u16, power_db: &[f64], power: &[f32]) -> Result<(), Refusal>
     ensures { answer result ≡ hop_refusal n phase power_db.now (length power.now) }
 {

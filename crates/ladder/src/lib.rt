@@ -10,13 +10,15 @@ use model::layout::{LADDER_MAX_DB, LADDER_MIN_DB, PAST_RUNGS_F64, RUNGS_ABOVE_U1
 
 mod tables;
 
-// The floor of x, held to 0..RUNGS_ABOVE_U16; a NaN gives 0.
+// The floor of x, held to 0..RUNGS_ABOVE_U16; a NaN gives 0. Here and below a u16 is how many rungs: no number of a kind and no refusal.
+// The same steps end `bin_index` of crate ring, with another bound: one function for both would be lent the bound twice, as a u16 and as the float one past
+// it, with a clause that ties the two and a proof of it at each call. What is long in both, the floor by cases, is one set of lemmas already.
 fn floor_held(x: f64) -> u16
     ensures { (result ≡ floor_held rungs_above x) × (result ≤ rungs_above) }
 {
     if x >= 0.0 {
         if x < PAST_RUNGS_F64 {
-            // What is cut to fewer bits here fits in them, which is proved.
+            // No From leads from u64 to u16; that the value fits is proved.
             std::num::truncating_f64_to_u64(x) as u16
         } else {
             RUNGS_ABOVE_U16

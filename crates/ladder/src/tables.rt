@@ -28,6 +28,7 @@ const TENS: [f64; TENS_LEN] = [
     1e24, 1e25, 1e26, 1e27, 1e28, 1e29, 1e30, 1e31,
 ];
 
+#[tactic(auto, unfolding(model::specs::Ladder::root_of))]
 pub fn root(j: usize) -> u64
     requires { j < 80 }
     ensures { result ≡ root_of j }

@@ -144,9 +144,6 @@ pub gather-begins : (p : ℕ → Bool) (to : ℕ) → 0 ≡ number (to - to) (λ
 unfolding number
 gather-begins p to = ap (λ (c : ℕ). number c (λ j. p (to + j))) (let z : 0 ≡ to - to = omega arith in z)
 
-pub gather-ends : (p : ℕ → Bool) (from to k b : ℕ) → k ≡ from → b ≡ number (to - k) (λ j. p (k + j)) → b ≡ number (to - from) (λ j. p (from + j))
-gather-ends p from to k b e h = h ∙ ap (λ (i : ℕ). number (to - i) (λ j. p (i + j))) e
-
 -- fewer than eight bits leave room for one more
 pub room : (c : ℕ) (p : ℕ → Bool) → c < 8 → number c p < 128
 room c p h = omega (arith, number_lt c p, pow_mono {i = c} {j = 7} (omega arith))

@@ -1,9 +1,9 @@
 -- A log read from its first hop on, hop by hop: what is known after some hops, and what an answer then tells. Assumes nothing.
 use Rattle.std.specs.Prelude.{Option, Some, None, Result, Ok, Err}
 use mathlib.Core.Path.{◌≡◌, refl, sym, ap, ap₂, ◌∙◌}
-use mathlib.Core.Bool.{Bool, true, false}
+use mathlib.Core.Bool.{true, false}
 use mathlib.Core.List.{List, ◌∷◌}
-use Rattle.std.specs.Result.{is_err}
+use Rattle.std.specs.Result.{is_ok}
 use Prim.Native.Nat.{ℕ, zero, suc, ◌+◌, ◌-◌, ◌*◌, ◌/◌, ◌<◌, ◌≤◌}
 use native.Mathlib.Nat.{mul-zero, mul-suc, mul-div_right}
 use native.Mathlib.Numerals.{add-one}
@@ -128,11 +128,11 @@ take-zeros n m k h e = from 0 n m h ∙ ap (λ (i : ℕ). tab i (λ _. 0)) e
 pub zeros-long : (n m : ℕ) → n ≤ m → n ≡ length (take {A = ℕ} n (replicate m 0))
 zeros-long n m h = sym (ap length (take-zeros n m n h refl) ∙ length-tab n (λ _. 0))
 
--- whether a call refused, as its number tells
-pub refused : (r : Result (Unit {0}) Refusal) (b : Bool) → b ≡ is_err r → b ≡ true → answer r ≡ 0 → ⊥
-refused (Ok u) b e t h = cc
-refused (Err x) b e t h = some_number x h
+-- whether a call refused
+pub refused : (r : Result (Unit {0}) Refusal) → false ≡ is_ok r → answer r ≡ 0 → ⊥
+refused (Ok u) e h = cc
+refused (Err x) e h = some_number x h
 
-pub passed : (r : Result (Unit {0}) Refusal) (b : Bool) → b ≡ is_err r → b ≡ false → answer r ≡ 0
-passed (Ok u) b e t = refl
-passed (Err x) b e t = cc
+pub passed : (r : Result (Unit {0}) Refusal) → true ≡ is_ok r → answer r ≡ 0
+passed (Ok u) e = refl
+passed (Err x) e = cc

@@ -1,6 +1,6 @@
 // Document 02, R-8: two logs of equal n and equal number of hops, combined by selection. One pass over both in step judges them and
-// measures the result, another writes it; what stands at each hop is kept in arrays. Where the first pass says no, the number of the
-// refusal is worked out from each log by itself.
+// measures the result, another writes it; what stands at each hop is kept in arrays of 512 channels or twice as many, since there is no heap. Where the
+// first pass says no, the number of the refusal is worked out from each log by itself.
 #![tactic(auto)]
 
 ghost use Rattle.std.specs.Prelude.{◌≡◌, cond, ◌&&◌, ◌++◌, ◌+◌, ◌*◌, ◌≤◌, eqb, ltb, leb, length, drop, Some, None};
@@ -20,11 +20,34 @@ ghost use Rattle.log_combine.specs.Passes.{second_half, Lent, Begun, Ready, Judg
 use log_hops::Pairs;
 use refusals::Refusal;
 
-// Where the next hop begins in the first log and in the second.
+// A place in the first log and one in the second: where the next hop of each begins, or where each ends.
 #[derive(Clone, Copy)]
 pub struct Places {
     pub first: usize,
     pub second: usize,
+}
+
+impl Places {
+    // Both logs stand before a hop, or where one should be.
+    fn is_before(self, ends: Places) -> bool
+        ensures { result ≡ (ltb self.first ends.first && ltb self.second ends.second) }
+    {
+        self.first < ends.first && self.second < ends.second
+    }
+
+    // Whether both logs moved and the next hop of the result fits in what is left.
+    fn goes_on(self, next: Places, more: usize, left: usize) -> bool
+        ensures { result ≡ (ltb self.first next.first && (ltb self.second next.second && leb more left)) }
+    {
+        self.first < next.first && (self.second < next.second && more <= left)
+    }
+
+    // After the last turn: it fits if both logs ended.
+    fn fit_at(self, ends: Places, hops: usize) -> Option<usize>
+        ensures { result ≡ cond (eqb self.first ends.first && eqb self.second ends.second) (Some hops) None }
+    {
+        (self.first == ends.first && self.second == ends.second).then_some(hops)
+    }
 }
 
 // ---- both in step
@@ -39,13 +62,12 @@ fn step_back<T: Copy>(n: usize, items: &mut [T])
 }
 
 // One hop on in both logs. The selection that stood in the second halves of `db` and `power` stands in the first then, and behind it
-// the selection after this hop. Slices and no struct of them: behind a struct of `&mut` an ensures reads heard.exit.db.now. Places and
-// no readers: whoever turns compares the places before with those after.
+// the selection after this hop. Slices of dB and of power here and in the passes, and no struct of them: a turn writes them all, and behind a struct of
+// `&mut` a clause would read lent.exit.db.now. Places and no readers: whoever turns compares the places before with those after.
 fn turn(
     first: &[u8],
     second: &[u8],
-    x: usize,
-    y: usize,
+    at: Places,
     d: &mut [u64],
     p: &mut [u32],
     e: &mut [u64],
@@ -55,57 +77,33 @@ fn turn(
 ) -> Places
     requires lent { Lent (length d.old) p.old e.old q.old }
     requires db_len { (length db.old ≡ length d.old + length d.old) × (length power.old ≡ length d.old + length d.old) }
-    ensures first_value { (result.first ≡ some_or x (read_hop first.now x d.old p.old).0) × (result.second ≡ some_or y (read_hop second.now y e.old q.old).0) }
-    ensures d_after { (d.new ≡ (read_hop first.now x d.old p.old).1) × (p.new ≡ (read_hop first.now x d.old p.old).2) }
-    ensures e_after { (e.new ≡ (read_hop second.now y e.old q.old).1) × (q.new ≡ (read_hop second.now y e.old q.old).2) }
+    ensures first_value { (result.first ≡ some_or at.first (read_hop first.now at.first d.old p.old).0) × (result.second ≡ some_or at.second (read_hop second.now at.second e.old q.old).0) }
+    ensures d_after { (d.new ≡ (read_hop first.now at.first d.old p.old).1) × (p.new ≡ (read_hop first.now at.first d.old p.old).2) }
+    ensures e_after { (e.new ≡ (read_hop second.now at.second e.old q.old).1) × (q.new ≡ (read_hop second.now at.second e.old q.old).2) }
     ensures db_after { db.new ≡ second_half (length d.old) db.old ++ tab (length d.old) (chosen_at p.new q.new d.new e.new) }
     ensures power_after { power.new ≡ second_half (length d.old) power.old ++ tab (length d.old) (chosen_at p.new q.new p.new q.new) }
 {
     let n = d.len();
     step_back(n, db);
     step_back(n, power);
-    let one = log_read::log_read(first, x, d, p);
-    let two = log_read::log_read(second, y, e, q);
+    let one = log_read::log_read(first, at.first, d, p);
+    let two = log_read::log_read(second, at.second, e, q);
     let hop = Pairs { n, db: d, power: p };
     let other = Pairs { n, db: e, power: q };
     combine_choose::choose(&hop, &other, n, db, power);
     Places {
-        first: log_reader::place_after(one, x),
-        second: log_reader::place_after(two, y),
+        first: log_reader::place_after(one, at.first),
+        second: log_reader::place_after(two, at.second),
     }
 }
 
-// The length of the hop that stands in the second half, after the hop in the first.
+// The length of the hop that stands in the second half, after the hop in the first. That n is at most 512 is asked here and by the writer, and not of all
+// Pairs: to choose between them, or to ask whether one changed, takes no bound, and the type would ask for one.
 fn hop_len(pairs: &Pairs<'_>) -> usize
     requires { (pairs.now.n ≤ 512) × (length pairs.now.db.now ≡ pairs.now.n + pairs.now.n) }
     ensures { result ≡ width pairs.now.n + 12 * tally pairs.now.n (λ k. changed pairs.now.n pairs.now.db.now pairs.now.power.now (pairs.now.n + k)) }
 {
-    let mut count = 0;
-    for k in 0..pairs.n {
-        count += usize::from(pairs.is_changed(pairs.n + k));
-    }
-    pairs.n.div_ceil(8) + 12 * count
-}
-
-// Whether both logs moved and the next hop of the result fits in what is left.
-fn goes_on(x: usize, a: usize, y: usize, b: usize, more: usize, left: usize) -> bool
-    ensures { result ≡ (ltb x a && (ltb y b && leb more left)) }
-{
-    x < a && (y < b && more <= left)
-}
-
-// Both logs stand before a hop, or where one should be.
-fn is_before(x: usize, a: usize, y: usize, b: usize) -> bool
-    ensures { result ≡ (ltb x a && ltb y b) }
-{
-    x < a && y < b
-}
-
-// After the last turn: it fits if both logs ended.
-fn fit_at(x: usize, a: usize, y: usize, b: usize, hops: usize) -> Option<usize>
-    ensures { result ≡ cond (eqb x a && eqb y b) (Some hops) None }
-{
-    if x == a && y == b { Some(hops) } else { None }
+    pairs.n.div_ceil(8) + 12 * pairs.count_changed(pairs.n, pairs.n)
 }
 
 // The first pass: with how many hops both logs pass and the result has room, or none. Only a hop that was read moves a log's place; the
@@ -125,22 +123,27 @@ fn judge_on(
     ensures { Judged first.now second.now room result }
 {
     let n = d.len();
-    let mut x = 2;
-    let mut y = 2;
+    let ends = Places {
+        first: first.len(),
+        second: second.len(),
+    };
+    let mut at = Places {
+        first: 2,
+        second: 2,
+    };
     let mut len = 2;
     let mut hops = 0;
-    while is_before(x, first.len(), y, second.len()) {
-        let next = turn(first, second, x, y, d, p, e, q, db, power);
+    while at.is_before(ends) {
+        let next = turn(first, second, at, d, p, e, q, db, power);
         let more = hop_len(&Pairs { n, db, power });
-        if !goes_on(x, next.first, y, next.second, more, room - len) {
+        if !at.goes_on(next, more, room - len) {
             return None;
         }
-        x = next.first;
-        y = next.second;
+        at = next;
         len += more;
         hops += 1;
     }
-    fit_at(x, first.len(), y, second.len(), hops)
+    at.fit_at(ends, hops)
 }
 
 // The second pass: the result, which has room. The answer is its length.
@@ -164,20 +167,21 @@ fn write_on(
     let n = d.len();
     // No From leads from usize to u64.
     log_hops::put_low(log, 0, 2, n as u64);
-    let mut x = 2;
-    let mut y = 2;
+    let mut at = Places {
+        first: 2,
+        second: 2,
+    };
     let mut len = 2;
-    for j in 0..hops {
-        let next = turn(first, second, x, y, d, p, e, q, db, power);
-        x = next.first;
-        y = next.second;
+    for _ in 0..hops {
+        at = turn(first, second, at, d, p, e, q, db, power);
         let chosen = Pairs { n, db, power };
         len = chosen.put_hop(n, log, len);
     }
     len
 }
 
-// Headers that are refused, or tell unequal n, stop it before the first hop.
+// Headers that are refused, or tell unequal n, stop it before the first hop. The arrays are made here and once more in `write`: a function cannot hand
+// out slices of its own, and one that lends them to a closure would say each pass's contract once more, of the closure.
 fn judge(first: &[u8], second: &[u8], room: usize) -> Option<usize>
     ensures { Judged first.now second.now room result }
 {
@@ -185,12 +189,8 @@ fn judge(first: &[u8], second: &[u8], room: usize) -> Option<usize>
         return None;
     }
     let n = usize::from(low_first::two_bytes(first, 0));
-    if log_read::start_refusal(first, 2, n, n).is_err() {
-        return None;
-    }
-    if log_read::start_refusal(second, 2, n, n).is_err() {
-        return None;
-    }
+    log_read::start_refusal(first, 2, n, n).ok()?;
+    log_read::start_refusal(second, 2, n, n).ok()?;
     let two = n + n;
     let mut d = [0u64; 512];
     let mut p = [0u32; 512];
@@ -241,7 +241,7 @@ fn write(first: &[u8], second: &[u8], hops: usize, log: &mut [u8]) -> usize
 
 // ---- each log to its end, for the number of a refusal
 
-// From the first hop on, the slices zero: how many hops there are, or the refusal that ends them.
+// From the first hop on, the slices zero: how many hops there are, or the refusal that ends them. A while: the reader says which hop is the last.
 fn count_on(log: &[u8], db: &mut [u64], power: &mut [u32]) -> Result<usize, Refusal>
     requires { (db.old ≡ tab (low_two log.now 0) (λ _. 0)) × (power.old ≡ tab (low_two log.now 0) (λ _. 0)) }
     ensures { numbered result ≡ hop_count log.now }

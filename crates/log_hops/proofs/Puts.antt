@@ -15,6 +15,7 @@ pub put-none : (at : ℕ) (l : List ℕ) → put at [] l ≡ l
 unfolding put
 put-none at l = splice-none at l
 
+-- for a reader: the list is as long as it was
 pub length-put : (at : ℕ) (p l : List ℕ) → at + length p ≤ length l → length (put at p l) ≡ length l
 unfolding put
 length-put at p l h = length-splice at (length p) l p h refl

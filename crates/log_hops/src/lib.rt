@@ -1,4 +1,7 @@
-// Document 02, R-1: the bytes of one hop, for the writer of a log.
+// Document 02, R-1: the bytes of one hop, for the writer of a log. A hop is told by its first place; that all of it stands in the slices is said where a
+// hop is asked for, since `is_changed` and `count_changed` are asked of other stretches, too. For the three that write, a struct of Pairs and a first
+// place could say it, but the proof doesn't close: in its `map_byte` nothing says that the length of the slices fits in usize, so `from + k` would need
+// a bound of its own. And the clauses would read `self.now.pairs.n`.
 #![tactic(auto)]
 
 ghost use Rattle.std.specs.Prelude.{◌≡◌, cond, ◌&&◌, ◌+◌, ◌-◌, ◌*◌, ◌%◌, ◌<◌, ◌≤◌, ltb, length, get_or};
@@ -21,19 +24,20 @@ fn before<T: Copy>(n: usize, items: &[T], zero: T, i: usize) -> T
     if i < n { zero } else { items[i - n] }
 }
 
-// The bytes of x, the lowest first.
+// The bytes of x, the lowest first. One by one: `to_le_bytes` gives eight, and the width would have to be at most that, which nothing requires.
 pub fn put_low(log: &mut [u8], at: usize, width: usize, x: u64)
     requires { at + width ≤ length log.old }
     ensures { log.new ≡ put at (low_bytes width x) log.old }
 {
     let mut rest = x;
     for byte in log[at..at + width].iter_mut() {
-        // What is cut to fewer bits here fits in them, which is proved.
+        // A cast, since no From leads from 64 bits to 8. What it cuts is 0, which is proved.
         *byte = (rest % 256) as u8;
         rest /= 256;
     }
 }
 
+// The two numbers come from two slices: a struct of them would be made for this call alone.
 fn put_pair(log: &mut [u8], at: usize, db: u64, power: u32)
     requires { at + 12 ≤ length log.old }
     ensures { log.new ≡ put at (pair_of db power) log.old }
@@ -52,7 +56,16 @@ impl Pairs<'_> {
             || self.power[i] != before(self.n, self.power, 0, i)
     }
 
-    // Byte b of the map of the hop that begins at place `from`: whether each of eight pairs changed, the first in the lowest bit.
+    // How many of the `count` pairs from place `from` on are other ones.
+    pub fn count_changed(&self, from: usize, count: usize) -> usize
+        requires { from + count ≤ length self.now.db.now }
+        ensures { (result ≡ tally count (marked self.now from)) × (result ≤ count) }
+    {
+        (from..from + count).filter(|&i| self.is_changed(i)).count()
+    }
+
+    // Byte b of the map of the hop that begins at place `from`: whether each of eight pairs changed, the first in the lowest bit. The last byte may
+    // have fewer than eight: a bit, its channel and its place are worked out from j.
     fn map_byte(&self, from: usize, b: usize) -> u8
         requires hop { from + self.now.n ≤ length self.now.db.now }
         requires few { b < 64 }
@@ -79,7 +92,8 @@ impl Pairs<'_> {
         }
     }
 
-    // The changed pairs; the answer is where they end.
+    // The changed pairs; the answer is where they end. By index: a pair is compared with that n places before it, which is another place of the same
+    // slices.
     fn put_pairs(&self, from: usize, log: &mut [u8], at: usize) -> usize
         requires hop { from + self.now.n ≤ length self.now.db.now }
         requires room { at + 12 * tally self.now.n (marked self.now from) ≤ length log.old }

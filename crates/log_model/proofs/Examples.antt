@@ -1,4 +1,5 @@
--- Readings of document 02 that were found sound, by their smallest examples, computed. Assumes nothing.
+-- Readings of document 02 that were found sound, by their smallest examples, computed. No proof cites them: they show a reader what its words come to.
+-- Assumes nothing.
 use Rattle.std.specs.Prelude.{Some, None, Ok, Err}
 use mathlib.Core.Path.{◌≡◌, refl}
 use mathlib.Core.List.{List, [], ◌∷◌, ◌++◌}

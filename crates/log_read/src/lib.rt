@@ -1,4 +1,7 @@
-// Document 02, R-1: the reader of a hop log, one hop on. Everything is checked before anything is written.
+// Document 02, R-1: the reader of a hop log, one hop on. Everything is checked before anything is written. The dB bits and the power bits are two slices,
+// as C lends them: `take_pairs` writes both, and a clause would name what is behind a struct of two `&mut` by two steps more. So each function behind
+// `start_refusal` requires again what that one found, that they are equally long and at most 512. The log and a place in it come apart, too, as C lends
+// them: `log_reader` has the record of both.
 #![tactic(auto)]
 
 ghost use Rattle.std.specs.Prelude.{◌≡◌, ◌&&◌, ◌+◌, ◌-◌, ◌*◌, ◌/◌, ◌<◌, ◌≤◌, eqb, length};
@@ -24,36 +27,27 @@ fn is_set_past(log: &[u8], at: usize, n: usize) -> bool
     requires { (n ≤ 512) × (at + width n ≤ length log.now) }
     ensures { result ≡ any_below (8 * width n - n) (λ i. is_set log.now at (n + i)) }
 {
-    for k in n..8 * n.div_ceil(8) {
-        if is_set(log, at, k) {
-            return true;
-        }
-    }
-    false
+    (n..8 * n.div_ceil(8)).any(|k| is_set(log, at, k))
 }
 
 // How many channels have a pair.
 pub fn count_set(log: &[u8], at: usize, n: usize) -> usize
-    requires { (n ≤ 512) × (at + width n ≤ length log.now) }
+    requires { at + width n ≤ length log.now }
     ensures { (result ≡ tally n (is_set log.now at)) × (result ≤ n) }
 {
-    let mut count = 0;
-    for k in 0..n {
-        count += usize::from(is_set(log, at, k));
-    }
-    count
+    (0..n).filter(|&k| is_set(log, at, k)).count()
 }
 
-// The pair at `pair` is this one.
+// The pair at `pair` is this one: two numbers, each from its own slice.
 fn is_pair(log: &[u8], pair: usize, db: u64, power: u32) -> bool
     requires { pair + 12 ≤ length log.now }
     ensures { result ≡ eqb (low_eight log.now pair) db && eqb (low_four log.now (pair + 8)) power }
 {
-    low_first::eight_within(log, pair) == db
-        && low_first::four_within(log, pair + 8) == u64::from(power)
+    low_first::eight_within(log, pair) == db && low_first::four_within(log, pair + 8) == power
 }
 
-// Some pair of the hop is the one that the slices hold already.
+// Some pair of the hop is the one that the slices hold already. By index and with a return: the place of the pair goes from turn to turn, and a test
+// in `any` that moves it would hide that.
 fn is_unchanged(log: &[u8], at: usize, db: &[u64], power: &[u32]) -> bool
     requires { (length db.now ≤ 512) × ((length power.now ≡ length db.now) × (pair_at log.now at (length db.now) (length db.now) ≤ length log.now)) }
     ensures { result ≡ any_below (length db.now) (unchanged log.now at (length db.now) db.now power.now) }
@@ -123,7 +117,7 @@ fn hop_refusal(log: &[u8], at: usize, db: &[u64], power: &[u32]) -> Result<(), R
     Ok(())
 }
 
-// The pairs of a hop into the slices; the answer is where the hop ends.
+// The pairs of a hop into the slices; the answer is where the hop ends. By index, since a turn asks for bit k and writes the same place of two slices.
 fn take_pairs(log: &[u8], at: usize, db: &mut [u64], power: &mut [u32]) -> usize
     requires { (length db.old ≤ 512) × ((length power.old ≡ length db.old) × (pair_at log.now at (length db.old) (length db.old) ≤ length log.now)) }
     ensures value { result ≡ pair_at log.now at (length db.old) (length db.old) }
@@ -135,8 +129,7 @@ fn take_pairs(log: &[u8], at: usize, db: &mut [u64], power: &mut [u32]) -> usize
     for k in 0..n {
         if is_set(log, at, k) {
             db[k] = low_first::eight_within(log, pair);
-            // What is cut to fewer bits here fits in them, which is proved.
-            power[k] = low_first::four_within(log, pair + 8) as u32;
+            power[k] = low_first::four_within(log, pair + 8);
             pair += 12;
         }
     }

@@ -11,27 +11,17 @@ ghost use Rattle.log_hops.specs.Put.{put};
 use log_hops::Pairs;
 use refusals::Refusal;
 
-// How many pairs of all hops changed.
-fn count_changed(pairs: &Pairs<'_>) -> usize
-    ensures { (result ≡ tally (length pairs.now.db.now) (changed pairs.now.n pairs.now.db.now pairs.now.power.now)) × (result ≤ length pairs.now.db.now) }
-{
-    let mut count = 0;
-    for i in 0..pairs.db.len() {
-        count += usize::from(pairs.is_changed(i));
-    }
-    count
-}
-
 // The length of the log.
 fn log_len(pairs: &Pairs<'_>) -> usize
     requires { (1 ≤ pairs.now.n) × (pairs.now.n ≤ 512) }
     ensures { result ≡ 2 + width pairs.now.n * (length pairs.now.db.now / pairs.now.n) + 12 * tally (length pairs.now.db.now) (changed pairs.now.n pairs.now.db.now pairs.now.power.now) }
 {
     let maps = pairs.n.div_ceil(8) * (pairs.db.len() / pairs.n);
-    2 + maps + 12 * count_changed(pairs)
+    2 + maps + 12 * pairs.count_changed(0, pairs.db.len())
 }
 
-// The whole log, which fits; the answer is its length.
+// The whole log, which fits; the answer is its length. By numbers of hops: hop j begins at place n * j and is compared with the hop before it, of which
+// a chunk would not tell.
 fn put_log(pairs: &Pairs<'_>, log: &mut [u8]) -> usize
     requires le_n { (1 ≤ pairs.now.n) × ((pairs.now.n ≤ 512) × (length pairs.now.db.now % pairs.now.n ≡ 0)) }
     requires room { length (log_of pairs.now.n pairs.now.db.now pairs.now.power.now) ≤ length log.old }
@@ -47,7 +37,8 @@ fn put_log(pairs: &Pairs<'_>, log: &mut [u8]) -> usize
     at
 }
 
-// The checks in their order.
+// The checks in their order. Two slices still: only once they are known to be as long as one another are they Pairs. The bound of n is no part of Pairs
+// either, since what else they are asked needs none.
 #[tactic(auto, unfolding(log_model::specs::Format::write_refusal))]
 fn write_refusal(n: usize, db: &[u64], power: &[u32], room: usize) -> Result<(), Refusal>
     ensures { answer result ≡ write_refusal n db.now power.now room }

@@ -1,7 +1,7 @@
 // Numbers and floats in a list of bytes, the lowest byte first. Beyond the list's end there are zeros.
 #![tactic(auto)]
 
-ghost use Rattle.std.specs.Prelude.{◌≡◌, ℕ, ◌+◌, ◌<◌, ◌≤◌, length, slice_index};
+ghost use Rattle.std.specs.Prelude.{◌≡◌, List, ℕ, ◌+◌, ◌<◌, ◌≤◌, length, slice_index};
 ghost use Rattle.std.specs.Float.Ieee.{of_bits};
 ghost use Rattle.std.specs.Float.{binary32, binary64};
 ghost use Rattle.low_first.specs.LowFirst.{byte_at, low_two, low_four, low_eight, double_at, single_at};
@@ -21,41 +21,59 @@ pub fn byte_at(list: &[u8], at: usize, i: usize) -> u8
 fn bytes_at<const N: usize>(list: &[u8], at: usize) -> [u8; N]
     ensures { (i : ℕ) → i < N → slice_index result i ≡ byte_at list.now (at + i) }
 {
-    let mut bytes = [0; N];
-    for i in 0..N {
-        bytes[i] = byte_at(list, at, i);
-    }
-    bytes
+    std::array::from_fn(|i| byte_at(list, at, i))
 }
 
-#[tactic(auto, unfolding(crate::specs::LowFirst::low_two))]
+// A number of as many bytes as its type has. Each width has an instance, since from_le_bytes is each type's own and no trait of std has it.
+pub trait LowFirst: Copy {
+    ghost number_at: { List ℕ → ℕ → Self };
+
+    fn low_first(list: &[u8], at: usize) -> Self
+        ensures { result ≡ number_at list.now at };
+}
+
+impl LowFirst for u16 {
+    ghost number_at = { low_two };
+
+    #[tactic(auto, unfolding(crate::specs::LowFirst::low_two))]
+    fn low_first(list: &[u8], at: usize) -> u16 {
+        u16::from_le_bytes(bytes_at(list, at))
+    }
+}
+
+impl LowFirst for u32 {
+    ghost number_at = { low_four };
+
+    #[tactic(auto, unfolding(crate::specs::LowFirst::low_four))]
+    fn low_first(list: &[u8], at: usize) -> u32 {
+        u32::from_le_bytes(bytes_at(list, at))
+    }
+}
+
+impl LowFirst for u64 {
+    ghost number_at = { low_eight };
+
+    #[tactic(auto, unfolding(crate::specs::LowFirst::low_eight, crate::specs::LowFirst::low_four))]
+    fn low_first(list: &[u8], at: usize) -> u64 {
+        u64::from_le_bytes(bytes_at(list, at))
+    }
+}
+
+// The instance that logs and recordings ask for most, by a name of its own: their n.
 pub fn two_bytes(list: &[u8], at: usize) -> u16
     ensures { result ≡ low_two list.now at }
 {
-    u16::from_le_bytes(bytes_at(list, at))
+    u16::low_first(list, at)
 }
 
+// Four bytes, and below eight, where they are known to be there: nothing is tested, and the compiler may read them at once. Two functions and no method
+// of LowFirst: a log's pairs alone are read so, and nobody would ask for the instance of two bytes.
 #[tactic(auto, unfolding(crate::specs::LowFirst::low_four))]
-fn four_bytes(list: &[u8], at: usize) -> u32
+pub fn four_within(list: &[u8], at: usize) -> u32
+    requires { at + 4 ≤ length list.now }
     ensures { result ≡ low_four list.now at }
 {
-    u32::from_le_bytes(bytes_at(list, at))
-}
-
-#[tactic(auto, unfolding(crate::specs::LowFirst::low_eight, crate::specs::LowFirst::low_four))]
-pub fn eight_bytes(list: &[u8], at: usize) -> u64
-    ensures { result ≡ low_eight list.now at }
-{
-    u64::from_le_bytes(bytes_at(list, at))
-}
-
-// The same where the bytes are known to be there: nothing is tested, and the compiled code is one load.
-#[tactic(auto, unfolding(crate::specs::LowFirst::low_four))]
-pub fn four_within(list: &[u8], at: usize) -> u64
-    requires { at + 4 ≤ length list.now }
-    ensures { (result ≡ low_four list.now at) × (result < 4294967296) }
-{
-    u64::from(u32::from_le_bytes([list[at], list[at + 1], list[at + 2], list[at + 3]]))
+    u32::from_le_bytes([list[at], list[at + 1], list[at + 2], list[at + 3]])
 }
 
 #[tactic(auto, unfolding(crate::specs::LowFirst::low_eight, crate::specs::LowFirst::low_four))]
@@ -97,14 +115,15 @@ pub fn single(bits: u32) -> f32
     }
 }
 
+// Two functions once more: a generic one would need that trait.
 pub fn double_at(list: &[u8], at: usize) -> f64
     ensures { result ≡ double_at list.now at }
 {
-    double(eight_bytes(list, at))
+    double(u64::low_first(list, at))
 }
 
 pub fn single_at(list: &[u8], at: usize) -> f32
     ensures { result ≡ single_at list.now at }
 {
-    single(four_bytes(list, at))
+    single(u32::low_first(list, at))
 }

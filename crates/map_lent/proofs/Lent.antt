@@ -12,11 +12,10 @@ use Rattle.gate_sound.proofs.Sizes.{thirty}
 pub record Lent (gu : List ℕ) : Type 0 where
   pub thirty : length gu ≡ 30
   pub low : 1 ≤ get_or gu 0 0
-  pub high : get_or gu 0 0 ≤ 512
 
 pub lent_gate : (gu : List ℕ) (gf : List Float) → gate_refusal gu gf ≡ 0 → Lent gu
 lent_gate gu gf e = let n = n_within gu gf e in
-    record { thirty = thirty gu gf e; low = n.0; high = n.1 }
+    record { thirty = thirty gu gf e; low = n.0 }
 
 pub gate_of_map : (gu : List ℕ) (gf : List Float) (m : List ℕ) → after_gate gu gf (λ n. map_refusal n m) ≡ 0 → length gu ≡ 30
 gate_of_map gu gf m e = thirty gu gf (lent-gate gu gf m (λ n. map_refusal n m) e)

@@ -1,5 +1,6 @@
 // Document 02, R-12: a lent map beside its lent gate, whose n it has, and beside a bank too: the refusals of the calls on it and of those that
 // carry it, in their order. The gate's store is tested before the map, and each store once.
+// The two slices of a bank or a gate come as C lends them, and a hop's lengths as four numbers: a struct of them would be made for each test alone.
 #![tactic(auto)]
 
 ghost use Rattle.std.specs.Prelude.{◌≡◌};
@@ -8,7 +9,8 @@ ghost use Rattle.refusals.specs.Numbers.{answer};
 
 use refusals::Refusal;
 
-// Whether a map can be made there.
+// Whether a map can be made there. This test, the next and that of an address differ in what they ask of the map: a function that is handed the
+// question would need a clause on it, and each of them would still make its own question in a line.
 #[tactic(auto, using(crate::proofs::Lent::lent_gate))]
 pub fn make_refusal(gate: &[u16], gate_f: &[f64], map: &[u8]) -> Result<(), Refusal>
     ensures { answer result ≡ after_gate gate.now gate_f.now (λ n. map_make_refusal n map.now) }
@@ -40,7 +42,7 @@ pub fn address_refusal(
     map_store::address_refusal(map, usize::from(gate[0]), address)
 }
 
-// Whether they are a bank and a gate of as many channels, and a map for them.
+// Whether they are a bank and a gate of as many channels, and a map for them. Beside `gate_store::pair_refusal` for the reason that stands there.
 #[tactic(auto, using(stores::proofs::Banks::at_least_three, crate::proofs::Lent::gate_of_map), unfolding(model::specs::MapCalls::pair_map_refusal))]
 pub fn pair_map_refusal(
     bank: &[u16],

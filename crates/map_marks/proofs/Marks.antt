@@ -13,14 +13,20 @@ use lib.Pow.{pow_mono}
 use borrow.Author.Tests.{ltb-true, ltb-false}
 use Rattle.laws.specs.Lists.{part, splice, tab}
 use Rattle.laws.proofs.Tests.{by-test}
-use Rattle.laws.proofs.Lists.{length_part, part-past, splice-more}
+use Rattle.laws.proofs.Lists.{length_part, get_d_part, part-past, splice-more}
 use Rattle.laws.specs.Bits.{bit_at, number, byte, width, bit_of, bytes_of}
-use Rattle.laws.proofs.Bits.{number_lt, bits-number, bit-at}
+use Rattle.laws.proofs.Bits.{number_lt, number_same, bits-number, bit-at}
 use Rattle.bits.proofs.Operators.{made_of, bits-past, bits-or}
 use Rattle.model.specs.Map.{map_long, marked, flags_set, marks_set}
 use Rattle.model.proofs.MapFlags.{long-flags}
 
 -- ---- the marks
+
+-- the marks a..a + w, cut out and gathered
+pub of_part : (l : List ℕ) (a w : ℕ) → a + w ≤ length l → number (length (part a w l)) (marked (part a w l)) ≡ number w (λ j. marked l (a + j))
+of_part l a w h =
+    ap (λ (n : ℕ). number n (marked (part a w l))) (length_part a w l h)
+    ∙ number_same w (marked (part a w l)) (λ j. marked l (a + j)) (λ j k. ap (λ (x : ℕ). eqb x 1) (get_d_part a w l j 0 k))
 
 -- byte i of the flags once the marks of its channels, gathered, are set
 module _ (l marks : List ℕ) (i to b : ℕ) (e : to ≡ min (8 * i + 8) (length marks)) (g : 8 * i ≤ to) (f : b ≡ number (to - 8 * i) (λ j. marked marks (8 * i + j))) where

@@ -5,14 +5,14 @@ use mathlib.Core.List.{List}
 use Prim.Native.Nat.{ℕ, ◌+◌, ◌-◌, ◌*◌, ◌<◌, ◌≤◌}
 use native.Mathlib.Omega.{arith}
 use lib.Dec.{eqb, ltb}
-use lib.ListN.{length, get_or, replicate}
+use lib.ListN.{get_or}
 use lib.Bits.{bit_and, and_lt}
 use borrow.Author.Tests.{eq-eqb, eqb-true, le-ltb, ltb-false}
 use Rattle.laws.proofs.Tests.{by-test, both_ways}
 use Rattle.laws.specs.Bits.{bit_at, byte, width, bit_of}
 use Rattle.laws.proofs.Bits.{number_lt, bits-number, bit-at}
 use Rattle.bits.proofs.Operators.{same_bits, bits-and}
-use Rattle.model.specs.Map.{map_long, rise_flag, drop_flag, mask_bit, none_past, sound_map, fresh_map}
+use Rattle.model.specs.Map.{rise_flag, drop_flag, mask_bit, none_past, sound_map}
 use Rattle.model.proofs.MapSound.{past-none, none_is_past}
 
 -- the last byte of the group that begins at byte a: last is that byte
@@ -80,20 +80,14 @@ module _ (n : ℕ) (m : List ℕ) (w low : ℕ) where
   clean_at i = let x = get_or m i 0 in
       eqb (bit_and x low) x
 
-  pub whole : 1 ≤ n → w ≡ width n → low ≡ byte (λ j. ltb j (n + 8 - 8 * w)) → ((i : ℕ) → get_or m i 0 < 256)
+  pub whole : 1 ≤ n → w ≡ width n → low ≡ byte (λ j. ltb j (n - 8 * (w - 1))) → ((i : ℕ) → get_or m i 0 < 256)
       → (clean_at (w - 1) && clean_at (w + w - 1) && clean_at (w + w + w - 1)) ≡ sound_map n m
   whole h d e lt =
       sound_is n m (get_or m (w - 1) 0) (get_or m (w + w - 1) 0) (get_or m (w + w + w - 1) 0) low h
-      (e ∙ ap (λ (v : ℕ). byte (λ j. ltb j (n + 8 - 8 * v))) d)
+      (e ∙ ap (λ (v : ℕ). byte (λ j. ltb j v)) (let z : n - 8 * (w - 1) ≡ n + 8 - 8 * width n = omega (arith, d) in z))
       (ap (λ (v : ℕ). get_or m (v - 1) 0) d)
       (ap (λ (v : ℕ). get_or m (v + v - 1) 0) d)
       (ap (λ (v : ℕ). get_or m (v + v + v - 1) 0) d)
       (lt (w - 1))
       (lt (w + w - 1))
       (lt (w + w + w - 1))
-
--- ---- making
-
-pub fresh-is : (n : ℕ) (m l : List ℕ) → length m ≡ map_long n → l ≡ replicate (length m) 0 → l ≡ fresh_map n
-unfolding fresh_map
-fresh-is n m l e f = f ∙ ap (λ (k : ℕ). replicate k 0) e

@@ -156,9 +156,6 @@ module _ (n phase started B w : ℕ) (seeds chans : List ℕ) (long : length see
   pub get-seeds : part 3 B (n ∷ phase ∷ started ∷ (seeds ++ chans)) ≡ seeds
   get-seeds = part-mid (n ∷ phase ∷ started ∷ []) seeds chans 3 B refl long
 
-  pub get-chans : part (3 + B) w (n ∷ phase ∷ started ∷ (seeds ++ chans)) ≡ chans
-  get-chans = part-last (n ∷ phase ∷ started ∷ seeds) chans (3 + B) w (omega arith) wide
-
   pub put-seeds : (x : List ℕ) → splice 3 B (n ∷ phase ∷ started ∷ (seeds ++ chans)) x ≡ n ∷ phase ∷ started ∷ (x ++ chans)
   put-seeds x = splice-mid (n ∷ phase ∷ started ∷ []) seeds chans x 3 B refl long
 

@@ -23,7 +23,8 @@ use Rattle.model.specs.GoodGate.{GoodGate}
 use Rattle.model.proofs.GateStores.{gate-forth-u}
 use Rattle.model.proofs.GoodGates.{gate-back, gate_passes, gate-ready, n-of, sizes}
 use Rattle.model.proofs.FreshGates.{bare, good-update, good-hold}
-use Rattle.model.proofs.Pairs.{true-update, true-hold, bare-update, bare-hold}
+use Rattle.model.proofs.Pairs.{bare-update, bare-hold}
+use Rattle.model.proofs.TruePairs.{true-update, true-hold}
 use Rattle.model.specs.Map.{map_long}
 use Rattle.model.specs.MapCalls.{map_refusal, gate_update_if, gate_hold_if}
 use Rattle.model.specs.MapReach.{MapCall, map_left_by}

@@ -22,6 +22,7 @@ pub mod GateStores
 pub mod GoodGates
 pub mod FreshGates
 pub mod Pairs
+pub mod TruePairs
 pub mod MapSound
 pub mod MapRefusals
 pub mod MapFlags
@@ -46,5 +47,6 @@ pub mod LouderRings
 pub mod Louder
 pub mod LouderCases
 pub mod MapSets
+pub mod WorstKept
 pub mod WorstOfLate
 pub mod Decibels

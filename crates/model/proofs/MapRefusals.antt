@@ -1,54 +1,30 @@
 -- The refusals of the calls on a map, one by one. Assumes nothing.
-use mathlib.Core.Path.{◌≡◌, sym, ap, ◌∙◌}
-use mathlib.Core.Bool.{true, false, not, ◌||◌}
+use mathlib.Core.Path.{◌≡◌, sym, ◌∙◌}
+use mathlib.Core.Bool.{true, not, ◌||◌}
 use mathlib.Core.List.{List}
-use Prim.Native.Nat.{ℕ, zero, suc, ◌<◌, ◌≤◌}
+use Prim.Native.Nat.{ℕ, ◌<◌, ◌≤◌}
 use native.Mathlib.Omega.{arith}
 use lib.Dec.{ltb}
 use lib.ListN.{length, get_or}
 use lib.Ieee.{Float}
-use borrow.Author.Tests.{eq-eqb, ne_eqb, lt-ltb, le-ltb, le-leb, lt-leb, ltb-true, not-false}
+use borrow.Author.Tests.{eq-eqb, ltb-true, not-false}
 use Rattle.laws.specs.Tests.{differ, first}
 use Rattle.laws.proofs.Tests.{or_l, or_r, passed, same_of, goes_on, neither}
 use Rattle.model.specs.Refusals.{bank_refusal}
 use Rattle.model.specs.GateCalls.{gate_refusal}
 use Rattle.model.proofs.GoodGates.{n-of, gate-ready}
 use Rattle.model.specs.Map.{map_long, sound_map}
-use Rattle.model.specs.MapCalls.{map_len, map_make_refusal, map_refusal, address_refusal, after_gate, pair_map_refusal, unless_refused}
+use Rattle.model.specs.MapCalls.{map_make_refusal, map_refusal, address_refusal, after_gate, pair_map_refusal}
 use Rattle.model.specs.MapReach.{marks_refusal}
 
 -- ---- the length
 
-pub no-channels : (n : ℕ) → n < 1 → 0 ≡ map_len n
-unfolding map_len
-no-channels n h = rw (lt-leb 1 n h)
-
-pub too_many : (n : ℕ) → 1 ≤ n → 512 < n → 0 ≡ map_len n
-unfolding map_len
-too_many n g h = rw (le-leb 1 n g, lt-leb n 512 h)
-
-pub so-long : (n : ℕ) → 1 ≤ n → n ≤ 512 → map_long n ≡ map_len n
-unfolding map_len
-so-long n g h = rw (le-leb 1 n g, le-leb n 512 h)
-
 module _ (n : ℕ) (m : List ℕ) where
-  pub not-so-long : (length m ≡ map_long n → ⊥) → 2 ≡ map_make_refusal n m
-  unfolding map_make_refusal
-  not-so-long h = rw (ne_eqb (length m) (map_long n) h)
-
   pub can-be-made : length m ≡ map_long n → 0 ≡ map_make_refusal n m
   unfolding map_make_refusal
   can-be-made h = rw (eq-eqb (length m) (map_long n) h)
 
   -- ---- the map
-  pub misfit : (length m ≡ map_long n → ⊥) → 2 ≡ map_refusal n m
-  unfolding map_refusal
-  misfit h = rw (ne_eqb (length m) (map_long n) h)
-
-  pub unsound : length m ≡ map_long n → sound_map n m ≡ false → 9 ≡ map_refusal n m
-  unfolding map_refusal
-  unsound h s = rw (eq-eqb (length m) (map_long n) h, s)
-
   pub is-map : length m ≡ map_long n → sound_map n m ≡ true → 0 ≡ map_refusal n m
   unfolding map_refusal
   is-map h s = rw (eq-eqb (length m) (map_long n) h, s)
@@ -67,18 +43,6 @@ module _ (n : ℕ) (m : List ℕ) where
       let p = neither (map_refusal n m) (first (not (ltb a (map_long n))) 15 0) e in
       (p.0, ltb-true a (map_long n) (not-false (ltb a (map_long n)) (passed (not (ltb a (map_long n))) 15 0 (omega arith) p.1).0))
 
-  pub no-map : (a r : ℕ) → r ≡ map_refusal n m → (r ≡ 0 → ⊥) → r ≡ address_refusal n m a
-  unfolding address_refusal
-  no-map a r e h = rw (← e, ne_eqb r 0 h)
-
-  pub within-map : (a r : ℕ) → r ≡ map_refusal n m → r ≡ 0 → a < map_long n → 0 ≡ address_refusal n m a
-  unfolding address_refusal
-  within-map a r e z h = goes_on (map_refusal n m) (first (not (ltb a (map_long n))) 15 0) 0 (sym e ∙ z) (rw (lt-ltb a (map_long n) h))
-
-  pub past-map : (a r : ℕ) → r ≡ map_refusal n m → r ≡ 0 → map_long n ≤ a → 15 ≡ address_refusal n m a
-  unfolding address_refusal
-  past-map a r e z h = goes_on (map_refusal n m) (first (not (ltb a (map_long n))) 15 0) 15 (sym e ∙ z) (rw (le-ltb a (map_long n) h))
-
   -- ---- the marks
   -- what it means that there is none
   pub taken-marks : (rise fall : ℕ) → marks_refusal n m rise fall ≡ 0 → (map_refusal n m ≡ 0) × (rise ≡ n) × (fall ≡ n)
@@ -92,17 +56,6 @@ module _ (n : ℕ) (m : List ℕ) where
     pub good-marks : rise ≡ n → fall ≡ n → 0 ≡ marks_refusal n m rise fall
     unfolding marks_refusal
     good-marks g h = goes_on (map_refusal n m) (first (differ rise n || differ fall n) 5 0) 0 (sym e ∙ z) (rw (eq-eqb rise n g, eq-eqb fall n h))
-
--- ---- what is left behind
-
-module _ {A : Type 0} where
-  pub refused : (r q : ℕ) (new old : A) → r ≡ q → (r ≡ 0 → ⊥) → (r, old) ≡ unless_refused q new old
-  refused r zero new old e h = absurd (h e)
-  refused r (suc q) new old e h = ap (λ (x : ℕ). (x, old)) e
-
-  pub accepted : (q : ℕ) (x new old : A) → 0 ≡ q → x ≡ new → (0, x) ≡ unless_refused q new old
-  accepted zero x new old e h = ap (λ (y : A). (0, y)) h
-  accepted (suc q) x new old e h = absurd (omega arith)
 
 -- ---- the gate before it
 

@@ -94,24 +94,12 @@ pub true-fresh : (s : Settings) → PairsTrue (fresh_gate s)
 unfolding fresh_gate
 true-fresh s = record { pair = λ k h. inl (get_or-replicate s.n k nan nan h) }
 
-true-step : (g : Gate) (db power : List Float) → PairsTrue g → PairsTrue (gate_step g db power)
+pub true-step : (g : Gate) (db power : List Float) → PairsTrue g → PairsTrue (gate_step g db power)
 unfolding gate_step threshold_of
 true-step g db power p = record { pair = p.pair }
 
-true-refresh : (g : Gate) (b : FloorBank) → PairsTrue g → PairsTrue (refresh g b)
+pub true-refresh : (g : Gate) (b : FloorBank) → PairsTrue g → PairsTrue (refresh g b)
 true-refresh g b p = record { pair = λ k h. let l : k < g.n = (unfold refresh in h) in true-at g b k l (p.pair k l) }
-
-pub true-update : (g : Gate) (b : FloorBank) (db power : List Float) → PairsTrue g → PairsTrue (update_step g b db power)
-unfolding update_step
-true-update g b db power p = true-refresh (gate_step g db power) b (true-step g db power p)
-
-true-hold-at : (t : ℕ) (g : Gate) (b : FloorBank) → PairsTrue g → PairsTrue (hold_at t g b)
-true-hold-at zero g b p = p
-true-hold-at (suc t) g b p = true-refresh g b p
-
-pub true-hold : (g : Gate) (b : FloorBank) → PairsTrue g → PairsTrue (hold_step g b)
-unfolding hold_step
-true-hold g b p = true-hold-at g.started g b p
 
 -- ---- with true pairs the judgement is the one that works the ladder out
 

@@ -1,4 +1,5 @@
 // The layout in numbers: what a change of the front end moves. specs/Layout.antt says the same to the contracts.
+// One number in several types is cast by `as`: a constant's value can't call From, and each fits.
 
 // Where the histogram begins: the floor of a fresh channel, the quartile of no entries, and the least median that seeds.
 pub const HIST_DEPTH_DB: f64 = 160.0;
@@ -51,8 +52,6 @@ pub const LADDER_MAX_DB: f64 = LADDER_TOP as f64;
 
 // So many rungs below 0 dB, and so many above.
 pub const RUNGS_BELOW: usize = 8 * LADDER_DEPTH;
-
-pub const RUNGS_BELOW_U16: u16 = RUNGS_BELOW as u16;
 
 pub const RUNGS_ABOVE_U16: u16 = 8 * LADDER_TOP as u16;
 

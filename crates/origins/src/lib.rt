@@ -27,7 +27,7 @@ pub struct Explanation {
     pub rise: RiseOrigin,
 }
 
-// An origin's number in document 02's order, and the dB that it carries.
+// An origin's number in document 02's order, which C is answered and which tells whether two are of one kind, and the dB that it carries.
 // Two of each, and no trait over the two enums: its laws would name these four definitions again, and take more lines than the matches.
 pub fn effective_number(origin: EffectiveOrigin) -> u8
     ensures { result ≡ effective_number origin }

@@ -6,7 +6,7 @@ ghost use Rattle.model.specs.Layout.{decimation_hops};
 
 use model::layout::DECIMATION_HOPS;
 
-// The phase of the hop after one at this phase.
+// The phase of the hop after one at this phase: a count of hops, as the store has it, and no kind.
 pub fn next_phase(phase: u16) -> u16
     requires { phase < decimation_hops }
     ensures { result ≡ (phase + 1) % decimation_hops }

@@ -1,11 +1,13 @@
 // Document 01, "Readings", the bank's half: what is read of a lent bank, by channel. Each refuses as `stores::read_refusal` does, and then is one
 // line: a generic one with that line as a closure would have its contract to state over the closure's, and be longer than the five.
+// A bank comes as two slices, as C lends it, and is a `Channel` only once the test has passed.
 #![tactic(auto)]
 
 ghost use Rattle.std.specs.Prelude.{◌≡◌};
 ghost use Rattle.refusals.specs.Numbers.{numbered};
 ghost use Rattle.model.specs.Readings.{raw_reading, effective_reading, rise_reading, reference_reading, floors_reading, ring_start, ring_length, VeryPart};
 
+use channel_readings::Channel;
 use model::Floors;
 use refusals::Refusal;
 
@@ -25,7 +27,7 @@ pub fn effective_floor_db(bank: &[u16], bank_f: &[f64], k: usize) -> Result<f64,
     ensures { numbered result ≡ effective_reading bank.now bank_f.now k }
 {
     stores::read_refusal(bank, bank_f, k)?;
-    Ok(channel_readings::effective_at(bank, bank_f, k))
+    Ok(Channel { bank, bank_f, k }.effective())
 }
 
 // The rise floor, as it is stored.
@@ -34,7 +36,7 @@ pub fn rise_floor_db(bank: &[u16], bank_f: &[f64], k: usize) -> Result<f64, Refu
     ensures { numbered result ≡ rise_reading bank.now bank_f.now k }
 {
     stores::read_refusal(bank, bank_f, k)?;
-    Ok(channel_readings::rise_at(bank, bank_f, k))
+    Ok(Channel { bank, bank_f, k }.rise())
 }
 
 // The spectral reference, a linear power.
@@ -43,7 +45,7 @@ pub fn spectral_reference(bank: &[u16], bank_f: &[f64], k: usize) -> Result<f64,
     ensures { numbered result ≡ reference_reading bank.now bank_f.now k }
 {
     stores::read_refusal(bank, bank_f, k)?;
-    Ok(reference::reference_at(bank, bank_f, k))
+    Ok(reference::reference_at(&Channel { bank, bank_f, k }))
 }
 
 // Effective, rise and raw floor at once.
@@ -52,7 +54,7 @@ pub fn floors(bank: &[u16], bank_f: &[f64], k: usize) -> Result<Floors, Refusal>
     ensures { numbered result ≡ floors_reading bank.now bank_f.now k }
 {
     stores::read_refusal(bank, bank_f, k)?;
-    Ok(channel_readings::floors_at(bank, bank_f, k))
+    Ok(Channel { bank, bank_f, k }.floors())
 }
 
 // The ring of channel k: the very part of the store that it occupies.

@@ -8,9 +8,10 @@ ghost use Rattle.run_model.specs.Hops.{HopFits, Stepped};
 
 use refusals::Refusal;
 
-// Slices and no struct of them: behind a struct of `&mut` an ensures reads store.exit.0.now, and C lends them one by one.
+// Here and below, slices and no struct of them: behind a struct of `&mut` an ensures reads store.exit.0.now, and C lends them one by one.
+
 // One hop of a run that is not refused: with a hold of 0 the bank's update and the gate's, else the bank's with its reference held, and
-// the gate's marks again.
+// the gate's marks again. A hold is a byte, as C lends it.
 fn take_hop(
     bank: &mut [u16],
     bank_f: &mut [f64],
@@ -28,14 +29,15 @@ fn take_hop(
     if hold == 0 {
         bank_step::take_hop(bank, bank_f, power_db, power, false);
         gate::take_hop(bank, bank_f, gate, gate_f, power_db, power, rise, drop);
-        return;
+    } else {
+        bank_step::take_hop(bank, bank_f, power_db, power, true);
+        gate::take_hold(bank, bank_f, gate, gate_f, rise, drop);
     }
-    bank_step::take_hop(bank, bank_f, power_db, power, true);
-    gate::take_hold(bank, bank_f, gate, gate_f, rise, drop);
 }
 
 // Hop after hop: the next n places are read, and the next n are marked.
-// Places are counted, and no chunks zipped: a hop and parts of four slices would come as pairs in pairs, which reads no plainer.
+// Places are counted, `at` those read and `marks` those marked, and no chunks zipped: a hop and parts of four slices would come as pairs in
+// pairs, which reads no plainer.
 fn run(
     bank: &mut [u16],
     bank_f: &mut [f64],

@@ -27,6 +27,7 @@ pub enum Refusal {
 }
 
 impl Refusal {
+    // A match and no discriminants, which `as` would have to cast: a line a refusal, as the papers' table has it and `number_of`.
     pub fn number(self) -> u16
         ensures { result ≡ number_of self }
     {

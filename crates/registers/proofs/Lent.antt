@@ -2,7 +2,7 @@
 use mathlib.Core.Path.{◌≡◌, ap}
 use mathlib.Core.Bool.{true}
 use mathlib.Core.List.{List}
-use Prim.Native.Nat.{ℕ, ◌<◌, ◌≤◌}
+use Prim.Native.Nat.{ℕ, ◌<◌}
 use lib.ListN.{length, get_or, replicate}
 use lib.Ieee.{Float}
 use Rattle.model.specs.Map.{map_long, sound_map, fresh_map}
@@ -12,8 +12,6 @@ use Rattle.gate_sound.proofs.Sizes.{thirty}
 
 pub record Lent (gu m : List ℕ) : Type 0 where
   pub thirty : length gu ≡ 30
-  pub low : 1 ≤ get_or gu 0 0
-  pub high : get_or gu 0 0 ≤ 512
   pub long : length m ≡ map_long (get_or gu 0 0)
 
 pub record At (a : ℕ) (gu m : List ℕ) : Type 0 where
@@ -28,7 +26,7 @@ pub lent_address : (gu : List ℕ) (gf : List Float) (m : List ℕ) (a : ℕ) �
 lent_address gu gf m a e =
     let g = lent-address gu gf m a e in
     record {
-      lent = record { thirty = thirty gu gf (lent-gate gu gf m (λ n. address_refusal n m a) e); low = g.0; high = g.1; long = g.2 };
+      lent = record { thirty = thirty gu gf (lent-gate gu gf m (λ n. address_refusal n m a) e); long = g.2 };
       within = g.3;
     }
 
@@ -36,7 +34,7 @@ pub lent_map : (gu : List ℕ) (gf : List Float) (m : List ℕ) → after_gate g
 lent_map gu gf m e =
     let g = gate_and_map gu gf m e in
     record {
-      lent = record { thirty = thirty gu gf (lent-gate gu gf m (λ n. map_refusal n m) e); low = g.0; high = g.1; long = g.2 };
+      lent = record { thirty = thirty gu gf (lent-gate gu gf m (λ n. map_refusal n m) e); long = g.2 };
       sound = g.3;
     }
 

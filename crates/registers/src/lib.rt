@@ -1,7 +1,9 @@
-// Document 02, R-12: registers for the main processor, in a lent map beside its lent gate: making, read, write, wire.
+// Document 02, R-12: registers for the main processor, in a lent map beside its lent gate: making, read, write, wire. A gate is two slices, as C lends
+// them: they are read once a call, to test them, and a struct would be made for that alone. So would a type of the map and its n, which one function
+// behind the test writes and one reads: that the map is as long as n asks stands in both.
 #![tactic(auto)]
 
-ghost use Rattle.std.specs.Prelude.{◌≡◌, true, ℕ, ◌≤◌, ◌<◌, length};
+ghost use Rattle.std.specs.Prelude.{◌≡◌, true, ℕ, ◌<◌, length};
 ghost use Rattle.laws.specs.Lists.{one};
 ghost use Rattle.model.specs.Map.{map_long, wire, sound_map, written};
 ghost use Rattle.model.specs.MapCalls.{map_new_call, map_read_call, map_write_call, map_wire_call};
@@ -31,7 +33,7 @@ pub fn map_read(gate: &[u16], gate_f: &[f64], map: &[u8], address: usize) -> Res
 
 // A flag byte: the bits written as 1 are cleared. A mask byte: it is replaced, but for bits past n.
 fn write(map: &mut [u8], n: usize, address: usize, value: u8)
-    requires { (1 ≤ n) × (n ≤ 512) × (length map.old ≡ map_long n) × (address < map_long n) }
+    requires { (length map.old ≡ map_long n) × (address < map_long n) }
     ensures { map.new ≡ written n map.old address value }
 {
     let masks = 2 * n.div_ceil(8);
@@ -58,17 +60,13 @@ pub fn map_write(
     Ok(())
 }
 
-// 1 where some flag and its channel's mask bit are both 1, and 0 otherwise.
+// 1 where some flag and its channel's mask bit are both 1, and 0 otherwise: a byte and no bool, as C reads it.
 fn wire(map: &[u8], n: usize) -> u8
-    requires { (1 ≤ n) × (n ≤ 512) × (length map.now ≡ map_long n) × (sound_map n map.now ≡ true) }
+    requires { (length map.now ≡ map_long n) × (sound_map n map.now ≡ true) }
     ensures { result ≡ one (wire n map.now) }
 {
     let w = n.div_ceil(8);
-    let mut seen: u8 = 0;
-    for i in 0..w {
-        seen |= (map[i] | map[w + i]) & map[w + w + i];
-    }
-    u8::from(seen != 0)
+    u8::from((0..w).any(|i| (map[i] | map[w + i]) & map[w + w + i] != 0))
 }
 
 #[tactic(auto, using(crate::proofs::Lent::lent_map), unfolding(model::specs::MapCalls::map_wire_call))]

@@ -6,10 +6,11 @@ use replay_data::state::{GATE_LEN, MOST, MOST_F_LEN, MOST_GATE_F_LEN, MOST_LEN, 
 use replay_data::stores::Stores;
 use streams::{STDOUT, Source};
 
+// No heap: room for the longest list.
 const MOST_BYTES: usize = 600000;
 
-// A record takes two bytes or more, so there are no more turns than bytes. A record is replayed on the parts of the stores that its bank and its
-// gate take.
+// A record takes two bytes or more, so there are no more turns than bytes; that the loop ends is known by them. A record is replayed on the parts of the
+// stores that its bank and its gate take, which are arrays for the largest, since there is no heap.
 fn replay_list(list: &[u8]) -> Replay<'_> {
     let mut bank = [0u16; MOST_LEN];
     let mut bank_f = [0.0f64; MOST_F_LEN];
@@ -31,6 +32,7 @@ fn replay_list(list: &[u8]) -> Replay<'_> {
             rise: &mut rise[..sized.n],
             drop: &mut drop[..sized.n],
         };
+        // Kinds are numbers, here and where a record is read, as they stand in the list: an enum of them would be made of a number only to be matched.
         let next = match sized.byte(0) {
             1 => Some(banks::replay_new(sized, s)),
             2 => Some(banks::replay_update(sized, s)),

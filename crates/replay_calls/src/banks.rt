@@ -1,15 +1,10 @@
-// The records of a bank: one call each, with what is due.
-use refusals::{Refusal, answer};
-use replay_data::compare::{differing, floors_differ, reading_differs, sum_of};
+// The records of a bank: one call each, with what is due. A hop is made in arrays for the largest bank of the list, since there is no heap. The kind of
+// a reading is the number that the list has for it: it is matched once.
+
+use replay_data::compare::{answer_differs, floors_differ, passed_reading, passed_stores};
 use replay_data::hop::fill_hop;
 use replay_data::state::{MOST, Replay, after};
 use replay_data::stores::Stores;
-use std::num::wrapping_add_u64;
-
-// 1 if a call's answer is not the one that stands so many bytes behind the record's start.
-pub fn answer_differs(r: Replay, i: usize, done: Result<(), Refusal>) -> u64 {
-    u64::from(answer(done) != u16::from(r.byte(i)))
-}
 
 // 1, n, answer: a fresh bank.
 pub fn replay_new<'a>(r: Replay<'a>, s: Stores) -> Replay<'a> {
@@ -40,16 +35,13 @@ pub fn replay_reading<'a>(r: Replay<'a>, s: Stores) -> Replay<'a> {
         2 => readings::rise_floor_db(bank, bank_f, k),
         _ => readings::spectral_reference(bank, bank_f, k),
     };
-    let differs = reading_differs(got, r.byte(3), r.list, after(r.at, 4));
-    r.passed(12, differs)
+    passed_reading(r, got)
 }
 
 // 4, the sum of the u16 store, the f64 store: what both hold.
 pub fn replay_stores<'a>(r: Replay<'a>, s: Stores) -> Replay<'a> {
     let Stores { bank, bank_f, .. } = s;
-    let sums = u64::from(sum_of(bank) != r.eight_bytes(1));
-    let floats = differing(r.list, after(r.at, 9), bank_f);
-    r.passed(9 + 8 * r.store_f_len(), wrapping_add_u64(sums, floats))
+    passed_stores(r, bank, bank_f)
 }
 
 // 5, k, answer, effective, rise and raw floor: the three floors.

@@ -1,28 +1,26 @@
-// The records of a gate: one call each, with what is due.
-use crate::banks::answer_differs;
+// The records of a gate: one call each, with what is due. Arrays take the lengths and a hop, since there is no heap. The kind of a reading is the
+// number that the list has for it.
 use low_first::two_bytes;
-use replay_data::compare::{differing, reading_differs, sum_of};
+use replay_data::compare::{answer_differs, passed_reading, passed_stores};
 use replay_data::hop::fill_hop;
 use replay_data::marks::passed_marks;
 use replay_data::state::{MOST, Replay, after};
 use replay_data::stores::Stores;
-use std::num::wrapping_add_u64;
 
 // A gate takes 8 lengths; the list may ask for one with more.
 const MOST_LENGTHS: usize = 9;
 
 // A level is written with 800 added, an absent one as it is handed over.
 fn level(r: Replay, i: usize) -> i32 {
-    match r.two_bytes(i) {
+    match r.number::<u16>(i) {
         65535 => 65535,
         x => i32::from(x) - 800,
     }
 }
 
-fn fill_lengths(list: &[u8], mut at: usize, lengths: &mut [u16]) {
-    for length in lengths.iter_mut() {
-        *length = two_bytes(list, at);
-        at = after(at, 2);
+fn fill_lengths(list: &[u8], at: usize, lengths: &mut [u16]) {
+    for (k, length) in lengths.iter_mut().enumerate() {
+        *length = two_bytes(list, after(at, 2 * k));
     }
 }
 
@@ -95,14 +93,11 @@ pub fn replay_reading<'a>(r: Replay<'a>, s: Stores) -> Replay<'a> {
         0 => gate_readings::smoothed_db(gate, gate_f, k),
         _ => gate_readings::ema_rise(bank, bank_f, gate, gate_f, k),
     };
-    let differs = reading_differs(got, r.byte(3), r.list, after(r.at, 4));
-    r.passed(12, differs)
+    passed_reading(r, got)
 }
 
-// 10, the sum of the u16 store, the f64 store: what both hold.
+// 10, the sum of the u16 store, the f64 store: what both hold. As of a bank; only which stores they are differs.
 pub fn replay_stores<'a>(r: Replay<'a>, s: Stores) -> Replay<'a> {
     let Stores { gate, gate_f, .. } = s;
-    let sums = u64::from(sum_of(gate) != r.eight_bytes(1));
-    let floats = differing(r.list, after(r.at, 9), gate_f);
-    r.passed(9 + 8 * r.floats, wrapping_add_u64(sums, floats))
+    passed_stores(r, gate, gate_f)
 }

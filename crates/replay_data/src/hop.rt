@@ -14,7 +14,7 @@ fn fill<T: Copy, F: Fn(u8) -> T>(list: &[u8], at: usize, values: &mut [T], row: 
     }
 }
 
-// As many rows of dB as there are values, then the rows of power.
+// As many rows of dB as there are values, then the rows of power: two slices, as each call that takes a hop is lent them.
 pub fn fill_hop(list: &[u8], at: usize, db: &mut [f64], power: &mut [f32]) {
     let powers = after(at, db.len());
     fill(list, at, db, |row| double_at(list, usize::from(row) * 8));

@@ -1,11 +1,11 @@
 // The end of a record whose call writes marks.
-use crate::compare::differing;
+use crate::compare::{answer_differs, differing};
 use crate::state::{Replay, after};
-use low_first::byte_at;
-use refusals::{Refusal, answer};
+use refusals::Refusal;
 use std::num::wrapping_add_u64;
 
-// The answer, the rise bytes, the drop bytes: the answer stands at `at`, and with the last of them the record ends.
+// The answer, the rise bytes, the drop bytes, which the call wrote to two slices, as C lends them: the answer stands at `at`, and with the last of them
+// the record ends.
 pub fn passed_marks<'a>(
     mut r: Replay<'a>,
     at: usize,
@@ -13,9 +13,10 @@ pub fn passed_marks<'a>(
     rise: &[u8],
     drop: &[u8],
 ) -> Replay<'a> {
+    r.at = at;
+    let answers = answer_differs(r, 0, done);
     let rises = after(at, 1);
     let drops = after(rises, rise.len());
-    let answers = u64::from(answer(done) != u16::from(byte_at(r.list, at, 0)));
     let marks = wrapping_add_u64(
         differing(r.list, rises, rise),
         differing(r.list, drops, drop),

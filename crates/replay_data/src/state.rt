@@ -1,8 +1,9 @@
 // How far a replay is, and what it has counted.
-ghost use Rattle.std.specs.Prelude.{◌≡◌, ◌+◌, ◌*◌, ◌/◌, ◌<◌, ◌≤◌};
+ghost use Rattle.std.specs.Prelude.{◌≡◌, false, true, ◌+◌, ◌*◌, ◌/◌, ◌%◌, ◌^◌, ◌<◌, ◌≤◌, MatchOption, ⊤};
 ghost use Rattle.low_first.specs.LowFirst.{byte_at as byte_of};
+ghost use Rattle.replay_data.specs.Records.{after, channels, floats as floats_of, hop as hop_of, has_room};
 
-use low_first::{byte_at, double_at, eight_bytes, two_bytes};
+use low_first::{LowFirst, byte_at};
 use model::layout::{BLOCK_CHANNELS, BLOCK_REST, CHANNEL_LEN};
 use std::num::{wrapping_add_u64, wrapping_add_usize};
 
@@ -24,7 +25,9 @@ pub const MOST_GATE_F_LEN: usize = 2314;
 const RECORDS: usize = 3072;
 
 // A place in the list, which is far shorter than any number that wraps.
-pub fn after(at: usize, bytes: usize) -> usize {
+pub fn after(at: usize, bytes: usize) -> usize
+    ensures { result ≡ after at bytes }
+{
     wrapping_add_usize(at, bytes)
 }
 
@@ -44,7 +47,12 @@ pub struct Replay<'a> {
 }
 
 impl<'a> Replay<'a> {
-    pub fn new(list: &'a [u8]) -> Replay<'a> {
+    // Before the first record.
+    pub fn new(list: &'a [u8]) -> Replay<'a>
+        ensures places { (result.list ≡ list.entry) × ((result.at ≡ 3072) × (result.hop ≡ 3072)) }
+        ensures sizes { (result.n ≡ 0) × (result.floats ≡ 0) }
+        ensures counts { (result.records ≡ 0) × (result.differences ≡ 0) }
+    {
         Replay {
             list,
             at: RECORDS,
@@ -69,16 +77,19 @@ impl<'a> Replay<'a> {
         usize::from(self.byte(i))
     }
 
-    pub fn two_bytes(self, i: usize) -> u16 {
-        two_bytes(self.list, after(self.at, i))
-    }
-
-    pub fn eight_bytes(self, i: usize) -> u64 {
-        eight_bytes(self.list, after(self.at, i))
+    // A number of as many bytes as its type has.
+    pub fn number<T: LowFirst>(self, i: usize) -> T
+        ensures { result ≡ T.number_at self.entry.list.now (after self.entry.at i) }
+    {
+        T::low_first(self.list, after(self.at, i))
     }
 
     // The replay after a record of so many bytes.
-    pub fn passed(mut self, bytes: usize, differences: u64) -> Replay<'a> {
+    pub fn passed(mut self, bytes: usize, differences: u64) -> Replay<'a>
+        ensures place { (result.list ≡ self.entry.list) × (result.at ≡ after self.entry.at bytes) }
+        ensures counts { (result.records ≡ (self.entry.records + 1) % 2 ^ 64) × (result.differences ≡ (self.entry.differences + differences) % 2 ^ 64) }
+        ensures kept { (result.hop ≡ self.entry.hop) × ((result.n ≡ self.entry.n) × (result.floats ≡ self.entry.floats)) }
+    {
         self.at = after(self.at, bytes);
         self.records = wrapping_add_u64(self.records, 1);
         self.differences = wrapping_add_u64(self.differences, differences);
@@ -86,12 +97,17 @@ impl<'a> Replay<'a> {
     }
 
     // The replay with the hop and the sizes of the next record: the hop of a bank's update stands behind the record's first two bytes. None
-    // where a list that asks for more than there is ends.
-    pub fn sized(mut self) -> Option<Replay<'a>> {
+    // where a list that asks for more than there is ends. Kinds are the list's numbers: 1 a fresh bank, 2 a bank's update, 6 a fresh gate.
+    pub fn sized(mut self) -> Option<Replay<'a>>
+        ensures fits { MatchOption result (has_room (channels self.entry.list.now self.entry.at self.entry.n) (floats_of self.entry.list.now self.entry.at self.entry.floats) ≡ false) (λ r. has_room r.n r.floats ≡ true) }
+        ensures sizes { MatchOption result ⊤ (λ r. (r.n ≡ channels self.entry.list.now self.entry.at self.entry.n) × (r.floats ≡ floats_of self.entry.list.now self.entry.at self.entry.floats)) }
+        ensures hop { MatchOption result ⊤ (λ r. r.hop ≡ hop_of self.entry.list.now self.entry.at self.entry.hop) }
+        ensures kept { MatchOption result ⊤ (λ r. (r.list ≡ self.entry.list) × ((r.at ≡ self.entry.at) × ((r.records ≡ self.entry.records) × (r.differences ≡ self.entry.differences)))) }
+    {
         let kind = self.byte(0);
         let n = if kind == 1 { self.index(1) } else { self.n };
         let floats = if kind == 6 {
-            usize::from(self.two_bytes(2))
+            usize::from(self.number::<u16>(2))
         } else {
             self.floats
         };

@@ -6,7 +6,7 @@ use replay_data::marks::passed_marks;
 use replay_data::state::{MOST, Replay, after};
 use replay_data::stores::Stores;
 
-// The longest run of the list has 46 hops.
+// The longest run of the list has 46 hops. Its values and marks stand in arrays: there is no heap.
 const MOST_VALUES: usize = 46 * MOST;
 
 // 11, hops, the holds, the rows of dB, the rows of power, answer, the rise bytes, the drop bytes: a run of hops. None where a list ends that has

@@ -11,7 +11,7 @@ use Rattle.ring.specs.Push.{roomed, entered, Roomy}
 use Rattle.model.specs.Sound.{Sound}
 use Rattle.laws.proofs.Counting.{occ-le, set-append-add}
 use Rattle.model.specs.DeadBranches.{CountsWithin}
-use Rattle.model.proofs.Channels.{chan-back, chan-forth, length-chan_u}
+use Rattle.model.proofs.Channels.{chan-back, chan-forth}
 use Rattle.model.proofs.DeadBranches.{counts-within}
 
 -- ---- what the code stores into the entries, as a channel
@@ -185,7 +185,6 @@ module _ (l : List ℕ) (long : length l ≡ channel_len) where
   pub roomy : (t : Bool) → Sound ring_len bins (chan_of l) → Roomy (chan_u (roomed t (chan_of l)))
   roomy t s =
       record {
-        long = length-chan_u (roomed t (chan_of l)) (room-ring t) (room-counts t);
         next_below = omega (arith, ap (λ (c : ChannelFloor). c.next) (room_back t), next-stays t, s.next_below);
         counts_small =
             λ b h.

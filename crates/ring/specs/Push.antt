@@ -1,7 +1,7 @@
 -- The push of document 01, "Ring and quartile", in two halves: room is made, then the bin enters.
-use Rattle.std.specs.Prelude.{◌≡◌, ℕ, ◌+◌, ◌-◌, ◌%◌, ◌<◌, ◌≤◌, Bool, true, false, List, length, ◌==◌, slice_index, slice_index_or, slice_set}
+use Rattle.std.specs.Prelude.{ℕ, ◌+◌, ◌-◌, ◌%◌, ◌<◌, ◌≤◌, Bool, true, false, List, ◌==◌, slice_index, slice_index_or, slice_set}
 use Rattle.laws.specs.Lists.{one}
-use Rattle.model.specs.Layout.{bins, ring_len, at_counts, at_next, at_lead, channel_len}
+use Rattle.model.specs.Layout.{bins, ring_len, at_counts, at_next, at_lead}
 use Rattle.model.specs.Ring.{ChannelFloor, counted, uncounted, oldest}
 
 -- a full ring's oldest goes; another ring has one entry more
@@ -27,9 +27,8 @@ entered c b r =
       lead = c.lead + r;
     }
 
--- what a bin needs to enter
+-- what a bin needs to enter a channel
 pub record Roomy (l : List ℕ) : Type 0 where
-  pub long : length l ≡ channel_len
   pub next_below : slice_index_or l at_next 0 < ring_len
   pub counts_small : (b : ℕ) → b < bins → slice_index l (at_counts + b) ≤ ring_len
   pub lead_small : slice_index_or l at_lead 0 ≤ ring_len

@@ -1,21 +1,25 @@
-// Document 01, "Ring and quartile": the bin of a dB value and the push into a channel's ring.
-// A channel's part is a slice with its length in a clause, and no `&mut [u16; CHANNEL_LEN]`: it is cut from a store, and to make an array of
-// it would be a test on every push.
+// Document 01, "Ring and quartile": the bin of a dB value and the push into a channel's ring. That the channel is sound is a clause here and no type, as
+// `quartile` has it for its readers: a push writes the part in two halves, and between them the counts are not those of the ring. That a bin is below
+// BINS is a clause too: a type of it would be made in `bin_index` and taken apart in `enter`, where it is stored as a u16 and indexes the counts.
+// A u16 answered here is a bin, a place or a count, as the store has them: no number of a kind and no refusal.
 #![tactic(auto)]
 
-ghost use Rattle.std.specs.Prelude.{◌≡◌, ◌+◌, ◌-◌, ◌%◌, ◌<◌, ◌≤◌, true, ◌&&◌, length, ◌==◌, slice_index};
+ghost use Rattle.std.specs.Prelude.{◌≡◌, ◌+◌, ◌-◌, ◌%◌, ◌<◌, ◌≤◌, true, ◌&&◌, ◌==◌, slice_index};
 ghost use Rattle.laws.specs.Lists.{one};
-ghost use Rattle.model.specs.Layout.{bins, ring_len, at_filled, channel_len};
+ghost use Rattle.model.specs.Layout.{bins, ring_len, at_filled};
 ghost use Rattle.model.specs.Ring.{bin_of, centre_of, oldest, push_in, since};
 ghost use Rattle.model.specs.Stores.{chan_u, chan_of};
 ghost use Rattle.model.specs.Sound.{Sound};
 ghost use Rattle.ring.specs.Push.{roomed, entered, Roomy};
 
 use model::layout::{
-    BINS_F64, COUNTS, FILLED, HIST_DEPTH_DB, HIST_MIN_DB, LAST_BIN, LEAD, NEXT, RING_LEN_U16,
+    BINS_F64, CHANNEL_LEN, COUNTS, FILLED, HIST_DEPTH_DB, HIST_MIN_DB, LAST_BIN, LEAD, NEXT,
+    RING_LEN_U16,
 };
 
 // The sum is rounded before it is divided: -0.5 and the f64 next below it both fall in the last bin.
+// From z on the steps are those of `floor_held` in crate ladder, with another bound: one function for both would be lent the bound as a u16 and as the
+// float one past it, with a clause that ties the two, and the ring of the bank would depend on the gate's ladder or on a crate for this alone.
 pub fn bin_index(p: f64) -> u16
     ensures { result ≡ bin_of p }
 {
@@ -23,7 +27,7 @@ pub fn bin_index(p: f64) -> u16
     let z = y / 0.5;
     if z >= 0.0 {
         if z < BINS_F64 {
-            // What is cut to fewer bits here fits in them, which is proved.
+            // No From leads from u64 to u16; that the value fits is proved.
             std::num::truncating_f64_to_u64(z) as u16
         } else {
             LAST_BIN
@@ -62,16 +66,16 @@ fn lead_rise(bin: u16, quiet: bool) -> u16
 }
 
 // The bin at the next place: the oldest, once the ring is full.
-fn oldest_bin(chan: &[u16]) -> u16
-    requires { (length chan.now ≡ channel_len) × Sound ring_len bins (chan_of chan.now) }
+fn oldest_bin(chan: &[u16; CHANNEL_LEN]) -> u16
+    requires { Sound ring_len bins (chan_of chan.now) }
     ensures { (result ≡ oldest (chan_of chan.now)) × (result < bins) }
 {
     chan[usize::from(chan[NEXT])]
 }
 
 // The oldest of a full ring is counted no more.
-fn evict(chan: &mut [u16])
-    requires chan_len { (length chan.old ≡ channel_len) × Sound ring_len bins (chan_of chan.old) }
+fn evict(chan: &mut [u16; CHANNEL_LEN])
+    requires sound { Sound ring_len bins (chan_of chan.old) }
     requires at_filled_value { slice_index chan.old at_filled ≡ ring_len }
     ensures { chan.new ≡ chan_u (roomed true (chan_of chan.old)) }
 {
@@ -83,8 +87,8 @@ fn evict(chan: &mut [u16])
     chan[LEAD] = lead_left(lead, oldest);
 }
 
-fn make_room(chan: &mut [u16])
-    requires { (length chan.old ≡ channel_len) × Sound ring_len bins (chan_of chan.old) }
+fn make_room(chan: &mut [u16; CHANNEL_LEN])
+    requires { Sound ring_len bins (chan_of chan.old) }
     ensures { chan.new ≡ chan_u (roomed (slice_index chan.old at_filled == ring_len) (chan_of chan.old)) }
 {
     let filled = chan[FILLED];
@@ -96,7 +100,7 @@ fn make_room(chan: &mut [u16])
 }
 
 // The bin goes to the next place and is counted.
-fn enter(chan: &mut [u16], bin: u16, rise: u16)
+fn enter(chan: &mut [u16; CHANNEL_LEN], bin: u16, rise: u16)
     requires roomy { Roomy chan.old }
     requires bin_lt_bins { (bin < bins) × (rise ≤ 1) }
     ensures { chan.new ≡ chan_u (entered (chan_of chan.old) bin rise) }
@@ -113,8 +117,8 @@ fn enter(chan: &mut [u16], bin: u16, rise: u16)
 }
 
 // One entry into a channel's ring, as a slow hop makes it; `quiet` says that the channel's block has no seed push.
-pub fn push(chan: &mut [u16], bin: u16, quiet: bool)
-    requires chan_len { (length chan.old ≡ channel_len) × Sound ring_len bins (chan_of chan.old) }
+pub fn push(chan: &mut [u16; CHANNEL_LEN], bin: u16, quiet: bool)
+    requires sound { Sound ring_len bins (chan_of chan.old) }
     requires bin_lt_bins { bin < bins }
     ensures { chan.new ≡ chan_u (push_in ring_len quiet (chan_of chan.old) bin) }
 {
@@ -123,8 +127,8 @@ pub fn push(chan: &mut [u16], bin: u16, quiet: bool)
 }
 
 // Entries taken since the leading silence of the channel's block.
-pub fn since(chan: &[u16]) -> u16
-    requires { (length chan.now ≡ channel_len) × Sound ring_len bins (chan_of chan.now) }
+pub fn since(chan: &[u16; CHANNEL_LEN]) -> u16
+    requires { Sound ring_len bins (chan_of chan.now) }
     ensures { result ≡ since (chan_of chan.now) }
 {
     chan[FILLED] - chan[LEAD]

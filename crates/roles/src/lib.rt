@@ -52,7 +52,7 @@ pub const LOGGING: Role = Role::Technician;
 
 pub const DISPATCHING: Role = Role::Technician;
 
-// The answer of a call that is stopped.
+// The answer of a call that is stopped, for the rows of the C interface: the number of the refusal `Right`.
 pub const STOPPED: u16 = 16;
 
 // Whether the role of this number has a right that `least` and those after it have.

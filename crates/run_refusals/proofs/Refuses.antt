@@ -1,14 +1,14 @@
 -- The refusals of a run by its number of hops, its dB and its lengths are those of the run. Assumes nothing.
 use mathlib.Core.Path.{◌≡◌, refl, sym, ap, ◌∙◌}
 use mathlib.Core.Bool.{Bool, true, false, not, ◌&&◌, ◌||◌}
-use mathlib.Core.List.{List, [], ◌∷◌}
-use Prim.Native.Nat.{ℕ, suc, ◌+◌, ◌-◌, ◌*◌, ◌/◌, ◌%◌, ◌<◌, ◌≤◌}
-use native.Mathlib.Nat.{add-zero, suc-mul, mul_comm, mul-mod_right, mul-div_cancel, div-add-mod'}
+use mathlib.Core.List.{List, [], ◌∷◌, ◌++◌}
+use Prim.Native.Nat.{ℕ, suc, ◌+◌, ◌*◌, ◌/◌, ◌%◌, ◌<◌, ◌≤◌}
+use native.Mathlib.Nat.{add-zero, suc-mul, mul_comm, mul-mod_right, mul-div_cancel, div-add-mod', add-div_left, div-eq_of_lt}
 use native.Mathlib.Omega.{arith}
 use lib.Dec.{eqb}
-use lib.ListN.{length, get_or, take, drop as after}
+use lib.ListN.{length, get_or, take, drop as after, length-append}
 use lib.Ieee.{Float}
-use lib.Seq.{drop-drop}
+use lib.Seq.{take_at, drop_at}
 use borrow.Author.Tests.{eqb-true, eq-eqb, ne_eqb}
 use Rattle.laws.proofs.Lists.{row}
 use Rattle.laws.proofs.Tests.{both_ways, same_of, or_l}
@@ -54,9 +54,6 @@ module _ (n hops db power rise fall : ℕ) where
   abbrev L : ℕ
   L = hops * n
 
-  pub db-not : eqb db L ≡ false → true ≡ not_long_by n hops db power rise fall
-  db-not d = rw d
-
   module _ (d : eqb db L ≡ true) where
     same : (x : ℕ) → eqb x db ≡ eqb x L
     same x = ap (eqb x) (eqb-true db L d)
@@ -70,11 +67,13 @@ module _ (n hops db power rise fall : ℕ) where
     pub fall-decides : power ≡ db → rise ≡ db → not (eqb fall db) ≡ not_long_by n hops db power rise fall
     fall-decides p r = rw (d, ← same power, eq-eqb power db p, ← same rise, eq-eqb rise db r, ← same fall)
 
--- where all are, the dB are
-pub db_long : (n hops db power rise fall : ℕ) → not_long_by n hops db power rise fall ≡ false → db ≡ hops * n
-db_long n hops db power rise fall e =
+-- where all are, the dB are: so many hops are in them
+pub hops_are : (n hops db power rise fall : ℕ) → 0 < n → not_long_by n hops db power rise fall ≡ false → db / n ≡ hops
+hops_are n hops db power rise fall some e =
     let L = hops * n in
-    same_of db L (or_l (differ db L) (differ power L) (or_l (differ db L || differ power L) (differ rise L) (or_l (differ db L || differ power L || differ rise L) (differ fall L) e)))
+    ap (λ (x : ℕ). x / n)
+    (same_of db L (or_l (differ db L) (differ power L) (or_l (differ db L || differ power L) (differ rise L) (or_l (differ db L || differ power L || differ rise L) (differ fall L) e))))
+    ∙ mul-div_cancel hops some
 
 -- ---- garbled hops, one after another
 
@@ -85,22 +84,21 @@ next-at n i at e = ap (λ (x : ℕ). x + n) e ∙ sym (suc-mul i n) ∙ ap (λ (
 pub next_fits : (n hops i at len : ℕ) → len ≡ hops * n → at ≡ i * n → i < hops → at + n ≤ len
 next_fits n hops i at len l e h = omega (arith, mul_comm i n, mul_comm hops n, row n i hops h)
 
-module _ (n : ℕ) (db : List Float) where
-  -- what is left to ask of the hops from i on
-  abbrev pub left_of : ℕ → ℕ → ℕ → ℕ → Bool
-  left_of hops p at i = garbled_db n p (hops - i) (after at db)
+-- what is left to ask of these hops, the first of them at phase p
+abbrev pub left_of : ℕ → ℕ → List Float → Bool
+left_of n p db = garbled_db n p (length db / n) db
 
-  pub left-more : (hops p at i : ℕ) → i < hops
-      → left_of hops p at i ≡ ((eqb p 0 && garbled n (take n (after at db))) || left_of hops ((p + 1) % decimation_hops) (at + n) (i + 1))
-  left-more hops p at i l =
-      ap (λ (k : ℕ). garbled_db n p k (after at db)) (let e : hops - i ≡ suc (hops - (i + 1)) = omega arith in e)
-      ∙ ap (λ (x : List Float). (eqb p 0 && garbled n (take n (after at db))) || garbled_db n ((p + 1) % decimation_hops) (hops - (i + 1)) x) (drop-drop n at db)
+module _ (n p : ℕ) (some : 0 < n) where
+  pub left-more : (hop db : List Float) → length hop ≡ n
+      → left_of n p (hop ++ db) ≡ ((eqb p 0 && garbled (length hop) hop) || left_of n ((p + 1) % decimation_hops) db)
+  left-more hop db e =
+      let more : length (hop ++ db) / n ≡ suc (length db / n) =
+      ap (λ (x : ℕ). x / n) (length-append hop db ∙ ap (λ (x : ℕ). x + length db) e) ∙ add-div_left (length db) some ∙ omega arith in
+      ap (λ (k : ℕ). garbled_db n p k (hop ++ db)) more
+      ∙ (λ i. (eqb p 0 && garbled (sym e i) (take_at hop db n e i)) || garbled_db n ((p + 1) % decimation_hops) (length db / n) (drop_at hop db n e i))
 
-  pub left-all : (hops p : ℕ) → garbled_db n p hops db ≡ left_of hops p 0 0
-  left-all hops p = ap (λ (k : ℕ). garbled_db n p k db) (let e : hops ≡ hops - 0 = omega arith in e)
-
-  pub left-none : (hops p at : ℕ) → left_of hops p at hops ≡ false
-  left-none hops p at = ap (λ (k : ℕ). garbled_db n p k (after at db)) (let e : hops - hops ≡ 0 = omega arith in e)
+  pub left-none : (db : List Float) → length db < n → left_of n p db ≡ false
+  left-none db h = ap (λ (k : ℕ). garbled_db n p k db) (div-eq_of_lt h)
 
 -- ---- what a pair that is not refused has shown
 

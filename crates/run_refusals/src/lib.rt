@@ -1,7 +1,7 @@
 // A run of hops: its refusals in their order, by the stores and the slices as lent.
 #![tactic(auto)]
 
-ghost use Rattle.std.specs.Prelude.{◌≡◌, not, ◌&&◌, ◌+◌, ◌*◌, ◌%◌, ◌<◌, eqb, length};
+ghost use Rattle.std.specs.Prelude.{◌≡◌, not, ◌&&◌, ◌+◌, ◌*◌, ◌/◌, ◌%◌, ◌<◌, eqb, length};
 ghost use Rattle.model.specs.Layout.{decimation_hops};
 ghost use Rattle.model.specs.Refusals.{garbled};
 ghost use Rattle.refusals.specs.Numbers.{answer};
@@ -10,7 +10,8 @@ ghost use Rattle.run_refusals.specs.Checks.{not_long_by, garbled_db, run_refusal
 use phases::next_phase;
 use refusals::Refusal;
 
-// Whether a slice is as long as so many hops of n channels. Their product could wrap where a usize is small, so the length is divided.
+// Whether a slice is as long as so many hops of n channels. Their product could wrap where a usize is small, so the length is divided. That n isn't 0
+// is required here and of two more below: it comes from a tested gate, and a type for it would be made once a run, and taken apart at each division.
 #[tactic(auto, using(crate::proofs::Refuses::not_whole, crate::proofs::Refuses::whole))]
 fn run_long(len: usize, hops: usize, n: usize) -> bool
     requires { 0 < n }
@@ -19,6 +20,7 @@ fn run_long(len: usize, hops: usize, n: usize) -> bool
     len % n == 0 && len / n == hops
 }
 
+// Each length is asked for once, here: a struct of the four would be made for that alone.
 fn all_long(n: usize, hops: usize, power_db: usize, power: usize, rise: usize, drop: usize) -> bool
     requires { 0 < n }
     ensures { not result ≡ not_long_by n hops power_db power rise drop }
@@ -34,25 +36,24 @@ fn garbled_hop(phase: u16, power_db: &[f64]) -> bool
 }
 
 // Whether there is one among these hops, the first of them at this phase: it is looked for before anything is done.
-fn garbled_run(n: usize, phase: u16, hops: usize, power_db: &[f64]) -> bool
-    requires { (length power_db.now ≡ hops * n) × (phase < decimation_hops) }
-    ensures { result ≡ garbled_db n phase hops power_db.now }
+// The phase goes along from hop to hop, so this is a loop and no `any`, whose closure would have to write it.
+fn garbled_run(n: usize, phase: u16, power_db: &[f64]) -> bool
+    requires { (0 < n) × (phase < decimation_hops) }
+    ensures { result ≡ garbled_db n phase (length power_db.now / n) power_db.now }
 {
     let mut p = phase;
-    let mut at: usize = 0;
-    for i in 0..hops {
-        let e = at + n;
-        if garbled_hop(p, &power_db[at..e]) {
+    for hop in power_db.chunks_exact(n) {
+        if garbled_hop(p, hop) {
             return true;
         }
         p = next_phase(p);
-        at = e;
     }
     false
 }
 
-// Whether a bank and a gate take a run of so many hops with these dB, and with slices of these lengths.
-#[tactic(auto, using(crate::proofs::Refuses::known, crate::proofs::Refuses::db_long), unfolding(crate::specs::Checks::run_refusal_by))]
+// Whether a bank and a gate take a run of so many hops with these dB, and with slices of these lengths. Bank and gate are two slices each, as C
+// lends them: they are read once and go on as they came.
+#[tactic(auto, using(crate::proofs::Refuses::known, crate::proofs::Refuses::hops_are), unfolding(crate::specs::Checks::run_refusal_by))]
 pub fn run_refusal(
     bank: &[u16],
     bank_f: &[f64],
@@ -71,7 +72,7 @@ pub fn run_refusal(
     if !all_long(n, hops, power_db.len(), power, rise, drop) {
         return Err(Refusal::HopSize);
     }
-    if garbled_run(n, bank[1], hops, power_db) {
+    if garbled_run(n, bank[1], power_db) {
         return Err(Refusal::Garbled);
     }
     Ok(())

@@ -1,4 +1,5 @@
-// Document 01, "Stores": how long the stores of a bank are, and the refusals over sizes.
+// Document 01, "Stores": how long the stores of a bank are, and the refusals over sizes. That an n is at most 512 is a clause of two functions and no type:
+// n is lent as a number or read from a store, and here the type would be made of it only to be asked for that number.
 #![tactic(auto)]
 
 ghost use Rattle.std.specs.Prelude.{◌≡◌, ◌≤◌};
@@ -38,6 +39,7 @@ pub fn bank_len(n: usize) -> usize
     ensures { result ≡ bank_len_for n }
 {
     if !in_band(n) {
+        // A length and no Option: C's `wolfcloak_bank_len` answers 0 here.
         return 0;
     }
     base(n) + CHANNEL_LEN * n
@@ -48,6 +50,7 @@ pub fn bank_f_len(n: usize) -> usize
     ensures { result ≡ bank_f_len_for n }
 {
     if !in_band(n) {
+        // A length and no Option: C's `wolfcloak_bank_f_len` answers 0 here.
         return 0;
     }
     4 * n + blocks(n) + blocks(n)

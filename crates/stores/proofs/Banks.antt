@@ -3,28 +3,29 @@ use mathlib.Core.Path.{◌≡◌, refl, sym, ap, ap₂, ◌∙◌}
 use mathlib.Core.Bool.{Bool, true, false, not, ◌&&◌, ◌||◌}
 use mathlib.Core.List.{List, [], ◌∷◌}
 use Prim.Native.Nat.{ℕ, zero, suc, ◌-◌, ◌*◌, ◌+◌, ◌≤◌}
+use native.Mathlib.Nat.{add-zero}
 use native.Mathlib.Omega.{arith}
 use lib.Dec.{eqb, ltb, leb}
 use lib.ListN.{length, get_or}
 use lib.Ieee.{Float}
 use borrow.Author.Tests.{le-ltb, ltb-false}
-use Rattle.std.specs.List.{list_all}
+use Rattle.std.specs.List.{list_all, range_with_len}
 use Rattle.laws.specs.Lists.{part, tab}
 use Rattle.laws.specs.Tests.{all_below, within, differ, first}
 use Rattle.laws.proofs.Lists.{get_d_part, length_part, width}
 use Rattle.laws.proofs.Tabs.{get_d-tab}
-use Rattle.laws.proofs.Tests.{passed, stands}
+use Rattle.laws.proofs.Tests.{by-test, passed, stands, all_more, all-fails}
 use Rattle.model.specs.Ring.{ChannelFloor}
 use Rattle.model.specs.Layout.{channel_len}
 use Rattle.model.specs.Bank.{blocks, fresh_channel}
 use Rattle.model.specs.Stores.{base, bank_len, bank_f_len, bank_of, chan_of, chan_part, sound_channel, sound_bank}
 use Rattle.model.specs.Refusals.{bank_refusal}
-use Rattle.std.proofs.lemmas.Grind.{common_steps}
 use Rattle.refusals.specs.Numbers.{number_of}
 use Rattle.refusals.specs.declared.Refusal.{Refusal}
 use Rattle.store_sizes.specs.Checks.{size_refusal}
 use Rattle.stores.specs.Checks.{is_sound, sound_head, sound_seeds, sound_channels, sound_store}
 use Rattle.bank_sound.proofs.Checks.{all_same}
+use Rattle.refusals.proofs.Answers.{refuses}
 
 -- ---- the seeds
 
@@ -56,6 +57,16 @@ seeds_are u n h =
 
 -- ---- the store
 
+-- a search of the numbers from a on, where the test holds of all below
+pub all_ranged : (p : ℕ → Bool) (a m : ℕ) → all_below a p ≡ true → list_all p (range_with_len a m) ≡ all_below (a + m) p
+all_ranged p a zero h = sym (ap (λ (k : ℕ). all_below k p) (add-zero a) ∙ h)
+all_ranged p a (suc m) h =
+    let rest = list_all p (range_with_len (a + 1) m) in
+    let e : a + 1 + m ≡ a + suc m = omega arith in
+    by-test (p a)
+    (λ k. ap (λ (b : Bool). b && rest) k ∙ all_ranged p (a + 1) m (all_more p a h k) ∙ ap (λ (j : ℕ). all_below j p) e)
+    (λ k. ap (λ (b : Bool). b && rest) k ∙ sym (all-fails p (a + suc m) a (omega arith) k))
+
 -- what is said of a channel by its part, whose place and width are worked out
 pub channel_is : (u : List ℕ) (n start k : ℕ) (r : Bool) → start ≡ base n
     → r ≡ sound_channel (chan_of (part (start + channel_len * k) (start + channel_len * k + channel_len - (start + channel_len * k)) u)) → r ≡ is_sound u n k
@@ -80,10 +91,6 @@ store_is u f =
 
 abbrev pub size_of : List ℕ → List Float → ℕ
 size_of u f = size_refusal 9 (length u) (length f) (get_or u 0 0)
-
--- no refusal has the number of none
-refuses : (e : Refusal) → number_of e ≡ 0 → ⊥
-refuses e h = grind (arith, common_steps)
 
 -- the two tests of sizes taken as one
 nest : (s t : Bool) (rest : ℕ) → first s 9 (first t 2 rest) ≡ first (not (eqb (first s 9 (first t 2 0)) 0)) (first s 9 (first t 2 0)) rest

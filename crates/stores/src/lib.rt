@@ -1,7 +1,8 @@
-// Document 01, "Stores": the soundness test of a lent bank, and the refusals in their order.
+// Document 01, "Stores": the soundness test of a lent bank, and the refusals in their order. A bank's two stores are two slices, as C lends them, and so
+// are a hop's two lists: here they are only asked, and a struct of the two would be made at each call and read once.
 #![tactic(auto)]
 
-ghost use Rattle.std.specs.Prelude.{◌≡◌, true, ◌≤◌, length};
+ghost use Rattle.std.specs.Prelude.{◌≡◌, true, ◌≤◌, ◌<◌, length};
 ghost use Rattle.laws.specs.Tests.{all_below};
 ghost use Rattle.model.specs.Stores.{bank_len};
 ghost use Rattle.model.specs.Refusals.{bank_refusal, update_refusal, read_refusal};
@@ -17,36 +18,46 @@ fn head_sound(phase: u16, started: u16) -> bool
     phase < DECIMATION_HOPS && started <= 1
 }
 
-fn seeds_sound(bank: &[u16], n: usize) -> bool
-    requires { (n ≤ 512) × (length bank.now ≡ bank_len n) }
-    ensures { result ≡ sound_seeds bank.now n }
-{
-    let end = 3 + store_sizes::blocks(n);
-    bank[3..end].iter().all(|&seeds| seeds <= 25)
+// A bank's u16 store, as long as its n says.
+#[derive(Clone, Copy)]
+struct Store<'a> {
+    bank: &'a [u16],
+    n: usize,
+    ghost as_long: { (n ≤ 512) × (length bank.now ≡ bank_len n) },
 }
 
-// Most channels are found sound by sixteens, which takes less time than one by one.
-fn channels_sound(bank: &[u16], n: usize) -> bool
-    requires { (n ≤ 512) × (length bank.now ≡ bank_len n) }
-    ensures { result ≡ sound_channels bank.now n }
-{
-    let start = store_sizes::base(n);
-    let first = bank_sixteens::sound_sixteens(bank, start, n);
-    for k in first..n {
-        let a = start + CHANNEL_LEN * k;
-        if !bank_sound::channel_sound(&bank[a..a + CHANNEL_LEN]) {
-            return false;
-        }
+impl Store<'_> {
+    fn seeds_sound(&self) -> bool
+        ensures { result ≡ sound_seeds self.now.bank.now self.now.n }
+    {
+        let end = 3 + store_sizes::blocks(self.n);
+        self.bank[3..end].iter().all(|&seeds| seeds <= 25)
     }
-    true
-}
 
-#[tactic(auto, unfolding(crate::specs::Checks::sound_store))]
-fn store_sound(bank: &[u16], n: usize) -> bool
-    requires { (n ≤ 512) × (length bank.now ≡ bank_len n) }
-    ensures { result ≡ sound_store bank.now n }
-{
-    head_sound(bank[1], bank[2]) && seeds_sound(bank, n) && channels_sound(bank, n)
+    #[tactic(auto, using(crate::proofs::Banks::channel_is))]
+    fn is_channel_sound(&self, k: usize) -> bool
+        requires { k < self.now.n }
+        ensures { result ≡ is_sound self.now.bank.now self.now.n k }
+    {
+        let a = store_sizes::base(self.n) + CHANNEL_LEN * k;
+        bank_sound::channel_sound(self.bank[a..a + CHANNEL_LEN].as_array().unwrap())
+    }
+
+    // Most channels are found sound by sixteens, which takes less time than one by one.
+    fn channels_sound(&self) -> bool
+        ensures { result ≡ sound_channels self.now.bank.now self.now.n }
+    {
+        let start = store_sizes::base(self.n);
+        let first = bank_sixteens::sound_sixteens(self.bank, start, self.n);
+        (first..self.n).all(|k| self.is_channel_sound(k))
+    }
+
+    #[tactic(auto, unfolding(crate::specs::Checks::sound_store))]
+    fn is_sound(&self) -> bool
+        ensures { result ≡ sound_store self.now.bank.now self.now.n }
+    {
+        head_sound(self.bank[1], self.bank[2]) && self.seeds_sound() && self.channels_sound()
+    }
 }
 
 // Whether the lent stores are a bank.
@@ -59,7 +70,7 @@ pub fn bank_refusal(bank: &[u16], bank_f: &[f64]) -> Result<(), Refusal>
     }
     let n = usize::from(bank[0]);
     store_sizes::size_refusal(Refusal::Unsound, bank.len(), bank_f.len(), n)?;
-    if !store_sound(bank, n) {
+    if !(Store { bank, n }).is_sound() {
         return Err(Refusal::Unsound);
     }
     Ok(())

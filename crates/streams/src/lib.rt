@@ -12,7 +12,7 @@ pub const STDOUT: i32 = 1;
 
 pub const STDERR: i32 = 2;
 
-// Where bytes come from.
+// Where bytes come from. An enum and no `dyn Read`: a source is lent by `&` to all that name it at once, and a reader would be lent by `&mut`.
 #[derive(Drop)]
 pub enum Source {
     Input(Stdin),
@@ -75,6 +75,7 @@ fn write_words(text: &[u8]) {
 
 // A line on standard error: what failed, and the system's words for why.
 pub fn fail(what: &[u8], why: Error) {
+    // No heap: room for the longest words that the system has.
     let mut text = Cursor::new([0u8; 128]);
     let _ = write!(text, "{why}");
     // No From leads from u64 to usize.

@@ -1,6 +1,6 @@
 -- A batch of a recording: whole hops one after another, at most as many as there are from a slow hop to the next, and what the gate's smoothed dB
 -- are after each of them.
-use Rattle.std.specs.Prelude.{◌≡◌, Bool, true, false, ◌&&◌, List, ℕ, zero, suc, ◌+◌, ◌*◌, ◌%◌, ◌<◌, min, leb, Float, length, get_or}
+use Rattle.std.specs.Prelude.{◌≡◌, Bool, true, false, ◌&&◌, List, ℕ, zero, suc, ◌+◌, ◌*◌, ◌%◌, ◌<◌, ◌≤◌, min, leb, Float, length, get_or}
 use Rattle.laws.specs.Lists.{tab, splice}
 use Rattle.low_first.specs.LowFirst.{byte_at, double_at, single_at}
 use Rattle.model.specs.Numbers.{f0}
@@ -21,6 +21,14 @@ is_whole l size i = leb (size * i + size) (length l) && leb (byte_at l (size * i
 pub record Whole (l : List ℕ) (size r : ℕ) : Type 0 where
   pub all : (i : ℕ) → i < r → is_whole l size i ≡ true
   pub no_more : is_whole l size r ≡ false
+
+-- a batch of them: at least one, and not one more unless it has all that it may have
+pub record Front (l : List ℕ) (size hops : ℕ) : Type 0 where
+  pub some : 0 < hops
+  pub few : hops ≤ 15
+  pub within : size * hops ≤ length l
+  pub all : (i : ℕ) → i < hops → is_whole l size i ≡ true
+  pub no_more : hops < 15 → is_whole l size hops ≡ false
 
 -- the flag and the values of a whole hop, as `read_of` has them
 abbrev pub hop_taken : List ℕ → ℕ → ℕ → ℕ → ℕ × List Float × List Float

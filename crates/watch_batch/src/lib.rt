@@ -1,16 +1,18 @@
 // A batch of hops of a recording: its bytes, how many hops they are, their values, and the gate's smoothed dB after each of them. It lies
-// within the 15 hops from a slow hop to the next, of which only the first moves the floors.
+// within the 15 hops from a slow hop to the next, of which only the first moves the floors. dB and powers are two slices, here and where a hop is
+// read or heard: the calls of the bank take them so, and behind a struct of `&mut` a clause on what is written reads values.exit.0.now.
 #![tactic(auto)]
 
-ghost use Rattle.std.specs.Prelude.{◌≡◌, ◌+◌, ◌*◌, ◌<◌, ◌≤◌, length, get_or};
+ghost use Rattle.std.specs.Prelude.{◌≡◌, ◌+◌, ◌*◌, ◌<◌, ◌≤◌, length, get_or, Err, IfOk};
 ghost use Rattle.laws.specs.Lists.{tab};
 ghost use Rattle.model.specs.Numbers.{f0};
 ghost use Rattle.model.specs.Gate.{db_after};
-ghost use Rattle.watch_recording.specs.Recording.{hop_bytes};
-ghost use Rattle.watch_batch.specs.Batch.{start_of, Whole, hop_taken, smooth_after, started_after, with_front};
+ghost use Rattle.watch_recording.specs.Recording.{hop_bytes, step_of};
+ghost use Rattle.watch_recording.specs.declared.Stop as S;
+ghost use Rattle.watch_batch.specs.Batch.{start_of, Whole, Front, hop_taken, smooth_after, started_after, with_front};
 
 use streams::Source;
-use watch_recording::hop_bytes;
+use watch_recording::{Stop, entry_at, hop_bytes, step_of};
 
 // From a slow hop to the next.
 pub const MOST_HOPS: usize = 15;
@@ -76,12 +78,24 @@ pub fn whole_hops(bytes: &[u8], size: usize) -> usize
     ensures { Whole bytes.now size result × (size * result ≤ length bytes.now) }
 {
     let whole = bytes.len() / size;
+    // Over indices: where a hop begins is worked out from its number, and the number is the answer. Of the `position` of a chunk the check finds no proof.
     for i in 0..whole {
         if bytes[size * i] > 1 {
             return i;
         }
     }
     whole
+}
+
+// How many hops a batch takes: the whole ones in front, at most those up to the next slow hop; or why there is none.
+#[tactic(auto, using(crate::proofs::Firsts::front))]
+pub fn batch_hops(bytes: &[u8], size: usize) -> Result<usize, Stop>
+    requires { 0 < size }
+    ensures ok { IfOk result (λ hops. Front bytes.now size hops) }
+    ensures err { (stop : S.Stop) → result ≡ Err stop → step_of bytes.now size ≡ Err stop }
+{
+    step_of(bytes, size)?;
+    Ok(whole_hops(bytes, size).min(MOST_HOPS))
 }
 
 // The flag and the values of a whole hop.
@@ -106,6 +120,7 @@ pub fn take_values(
     requires { (hop_bytes n * length hold.old ≤ length bytes.now) × (length db.old ≡ k * length hold.old) × (length power.old ≡ k * length hold.old) }
 {
     let size = hop_bytes(n);
+    // Over indices: the places of hop i in the bytes and in the lists are worked out from i. Chunks of k values would ask for a k above 0.
     for i in 0..hold.len() {
         let (at, to) = (size * i, k * i);
         hold[i] = take_hop(
@@ -115,12 +130,6 @@ pub fn take_values(
             &mut power[to..to + k],
         );
     }
-}
-
-fn db_at(list: &[f64], k: usize) -> f64
-    ensures { result ≡ get_or list.now k f0 }
-{
-    list.get(k).copied().unwrap_or(0.0)
 }
 
 fn db_after(started: u16, s: f64, x: f64) -> f64
@@ -137,11 +146,12 @@ fn follow_db(started: u16, smooth: &mut [f64], db: &[f64])
     ensures { smooth.new ≡ tab (length smooth.old) (λ k. db_after started (get_or smooth.old k f0) (get_or db.now k f0)) }
 {
     for (k, s) in smooth.iter_mut().enumerate() {
-        *s = db_after(started, *s, db_at(db, k));
+        *s = db_after(started, *s, entry_at(db, k, 0.0));
     }
 }
 
-// The gate's smoothed dB after a hop.
+// The gate's smoothed dB after a hop. Here and below `hold` is a byte, as a run lends its hops' flags, and `started` the number that stands in the
+// gate's store: as bools both would be made from these at each hop, and the definitions of the gate would be asked for numbers of them.
 pub fn smooth_hop(hold: u8, started: u16, smooth: &mut [f64], db: &[f64])
     ensures { smooth.new ≡ smooth_after hold started smooth.old db.now }
 {
@@ -160,7 +170,7 @@ pub fn started_after(hold: u8, started: u16) -> u16
 pub fn started_of(gate: &[u16]) -> u16
     ensures { result ≡ get_or gate.now 1 0 }
 {
-    gate.get(1).copied().unwrap_or(0)
+    entry_at(gate, 1, 0)
 }
 
 // The smoothed dB stand in front of the gate's floats: kept, ..
@@ -168,7 +178,7 @@ pub fn keep_db(gate_f: &[f64], smooth: &mut [f64])
     ensures { smooth.new ≡ tab (length smooth.old) (λ k. get_or gate_f.now k f0) }
 {
     for (k, s) in smooth.iter_mut().enumerate() {
-        *s = db_at(gate_f, k);
+        *s = entry_at(gate_f, k, 0.0);
     }
 }
 

@@ -1,4 +1,5 @@
-// R-13: the dB of a hop left aside, and worked out from its powers.
+// R-13: the dB of a hop left aside, and worked out from its powers. Two slices and no struct: only the dB are written, and who reads a hop
+// holds the two apart, so a struct would be made for each call.
 #![tactic(auto)]
 
 ghost use Rattle.std.specs.Prelude.{◌≡◌};

@@ -9,11 +9,12 @@ ghost use Rattle.watch_fault_lines.specs.FaultLines.{place_text, bad_band_line, 
 
 use refusals::Refusal;
 use watch_figures::end_byte;
-use watch_names::put_refusal;
+use watch_names::put_name;
 use watch_recording::Place;
 use watch_text::{Line, put_number, put_text};
 
-// Where it stands, with which each line starts.
+// Where it stands, with which each line starts. A hop and a byte, here and of a refusal, and no `Place`: that is where a hop begins, and a line may stand
+// before the first, or within one.
 pub fn put_place(line: &mut Line, hop: u64, byte: u64)
     ensures { written line.new ≡ put_texts (written line.old) (place_text hop byte) }
 {
@@ -68,7 +69,7 @@ fn put_why(line: &mut Line, refusal: Refusal)
     put_text(line, b"refused (");
     put_number(line, u64::from(refusal.number()), 0);
     put_text(line, b"), ");
-    put_refusal(line, refusal);
+    put_name(line, &refusal, 0);
     put_text(line, b"\n");
 }
 

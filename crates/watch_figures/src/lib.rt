@@ -67,6 +67,7 @@ pub fn floors_of(r: Result<Floors, Refusal>) -> Floors
     r.unwrap_or(no_floors())
 }
 
+// Past the end there is no number. `watch_recording::entry_at` says the same of any value: for a line of one call figures would depend on recordings.
 pub fn float_at(floats: &[f64], k: usize) -> f64
     ensures { result ≡ slice_index_or floats.now k nan }
 {

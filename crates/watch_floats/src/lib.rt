@@ -9,7 +9,8 @@ ghost use Rattle.watch_floats.specs.Floats.{sized as floats_sized};
 
 use watch_text::{Line, glyph, put_hundredths, put_right, put_text};
 
-// How a float is shown: in hundredths of its size, or by a word; true: below zero.
+// How a float is shown: in hundredths of its size, or by a word; true: below zero. Three kinds, and no Result of a number: two of them are words. The
+// sign stands beside the hundredths, of which there can be up to 2^64: no signed number of 64 bits holds them.
 #[derive(Clone, Copy, Debug, PartialEq)]
 pub enum Shown {
     NotANumber,
@@ -75,6 +76,7 @@ fn scale(x: f64) -> Scaled
     ensures { result ≡ scale_of x }
 {
     let mut size = x;
+    // Counted, since the count is answered: there are no elements to go over.
     for tens in 0..330 {
         if !(size < 1.0) {
             return Scaled { x: size, tens };

@@ -2,12 +2,11 @@
 #![tactic(auto)]
 
 ghost use Rattle.std.specs.Prelude.{◌≡◌};
-ghost use Rattle.watch_follow.specs.Followed.{stopped, after_hop, followed};
+ghost use Rattle.watch_follow.specs.Followed.{after_hop, followed};
 
 use origins::Explanation;
-use watch_hear::Stop;
 use watch_notices::{Watched, faults};
-use watch_recording::Place;
+use watch_recording::{Place, Stop};
 use watch_report::lines::{Channels, print_hop};
 use watch_stores::Stores;
 
@@ -19,8 +18,9 @@ pub struct Marked<'a> {
     pub drop: &'a [u8],
 }
 
-// What became of a hop: told, and if it was taken counted. The four lists come as slices and not as
-// `watch_report::tail::Kept`: the clause would read kept.new.alive.now, and a call that reads one and writes another is not covered behind it.
+// What became of a hop: told, and if it was taken counted. Where it was not there is no next place. The four lists come, here and
+// where a hop is taken, as slices and not as `watch_report::tail::Kept`: the clause would read kept.new.alive.now, and a call that reads one and writes
+// another is not covered behind it.
 #[tactic(auto, unfolding(crate::specs::Followed::followed))]
 pub fn follow(
     w: Watched,
@@ -33,28 +33,28 @@ pub fn follow(
     alive_hops: &mut [u64],
     events: &mut [u8],
     rises: &mut [u64],
-) -> Place
+) -> Option<Place>
     ensures { (result, alive.new, alive_hops.new, events.new, rises.new) ≡ followed heard place alive.old alive_hops.old events.old rises.old hop.entry.rise.now hop.entry.drop.now }
 {
     match heard {
-        Ok(size) => take_hop(
+        Ok(size) => Some(take_hop(
             w, size, place, before, stores, hop, alive, alive_hops, events, rises,
-        ),
-        Err(stop) => print_stop(w, place, stop),
+        )),
+        Err(stop) => {
+            print_stop(w, place, stop);
+            None
+        }
     }
 }
 
 // Why no more hops are taken.
-pub fn print_stop(w: Watched, place: Place, stop: Stop) -> Place
-    ensures { result ≡ stopped place }
-{
+pub fn print_stop(w: Watched, place: Place, stop: Stop) {
     match stop {
         Stop::End => {}
         Stop::Cut(got) => faults::print_cut(w, place, got),
         Stop::BadFlag(flag) => faults::print_bad_flag(w, place, flag),
         Stop::Refused(refusal) => faults::print_refused(w, place, refusal),
     }
-    watch_recording::ended(place)
 }
 
 // What the marks of a hop change, told and then taken over.

@@ -1,24 +1,18 @@
 -- What a hop makes of a gate, of a bank and a gate, and what became of it, by what was asked on the way. Assumes nothing.
-use Rattle.std.proofs.Common.{◌≡◌, refl, ap, ◌∙◌, Bool, true, false, List, ℕ, zero, suc, arith}
-use Rattle.std.proofs.lemmas.Grind.{common_steps}
+use Rattle.std.proofs.Common.{◌≡◌, refl, ap, ◌∙◌, Bool, true, false, List, ℕ, zero, suc}
 use lib.Ieee.{Float}
 use Rattle.refusals.specs.Numbers.{number_of}
 use Rattle.refusals.specs.declared.Refusal.{Refusal}
 use Rattle.refusals.specs.declared.Refusal.TheVariants as R
-use Rattle.std.specs.Prelude.{Result, Err}
-use Rattle.watch_recording.specs.declared.Step.{Step}
-use Rattle.watch_recording.specs.declared.Step.TheVariants.{Hop}
-use Rattle.watch_hear.specs.declared.Stop.{Stop}
-use Rattle.watch_hear.specs.declared.Stop.TheVariants.{Refused}
+use Rattle.std.specs.Prelude.{Result, Ok, Err}
+use Rattle.watch_recording.specs.declared.Hop.{Hop}
+use Rattle.watch_recording.specs.declared.Stop.{Stop}
+use Rattle.watch_recording.specs.declared.Stop.TheVariants.{Refused}
 use Rattle.watch_hear.specs.Heard.{answer_of, answered, heard_of}
 use Rattle.model.specs.Bank.{hop}
 use Rattle.model.specs.GateCalls.{GateHop, gate_update_call, gate_hold_call}
 use Rattle.model.specs.WorstCalls.{Answered, update_if}
 use Rattle.watch_hear.specs.Judged.{Gated, Judged, gate_judged, beside, after, judged}
-
--- no refusal has the number of none
-pub refuses : (e : Refusal) → number_of e ≡ 0 → ⊥
-refuses e h = grind (arith, common_steps)
 
 module _ (bu : List ℕ) (bf : List Float) (gu : List ℕ) (gf : List Float) (h : GateHop) (rise drop : List ℕ) where
   pub held : (b : Bool) (x : ℕ) (f' : List Float) (rise' drop' : List ℕ) → b ≡ true → (x, f', rise', drop') ≡ gate_hold_call bu bf gu gf rise drop
@@ -53,11 +47,11 @@ module _ (c : Bool) (bu : List ℕ) (bf : List Float) (wu : List ℕ) (wf : List
   unfolding judged
   taken b u f v g a e k = ap (beside u f v g) k ∙ ap (then b) e
 
-  module _ (s : Step) where
-    pub heard : (b : Bool) (size : ℕ) (x : Result ℕ Stop) (j : Judged) → s ≡ Hop b size → j ≡ judged c b bu bf wu wf gu gf h rise drop → x ≡ answer_of size j.0
+  module _ (s : Result Hop Stop) where
+    pub heard : (p : Hop) (x : Result ℕ Stop) (j : Judged) → s ≡ Ok p → j ≡ judged c p.is_static bu bf wu wf gu gf h rise drop → x ≡ answer_of p.size j.0
         → (x, j.1, j.2, j.3, j.4, j.5, j.6, j.7, j.8) ≡ heard_of s c bu bf wu wf gu gf h rise drop
     unfolding heard_of
-    heard b size x j t e a = rw t (ap (λ (y : Result ℕ Stop). (y, j.1, j.2, j.3, j.4, j.5, j.6, j.7, j.8)) a ∙ ap (answered size) e)
+    heard p x j t e a = rw t (ap (λ (y : Result ℕ Stop). (y, j.1, j.2, j.3, j.4, j.5, j.6, j.7, j.8)) a ∙ ap (answered p.size) e)
 
 -- a refusal is the one of its number
 pub names : (e : Refusal) (size : ℕ) → Err (Refused e) ≡ answer_of size (number_of e)

@@ -3,10 +3,9 @@ use Rattle.std.specs.Prelude.{cond, eqb, Bool, List, ℕ, zero, suc, Float, Resu
 use Rattle.model.specs.GateCalls.{GateHop}
 use Rattle.refusals.specs.declared.Refusal.{Refusal}
 use Rattle.refusals.specs.declared.Refusal.TheVariants as R
-use Rattle.watch_recording.specs.declared.Step.{Step}
-use Rattle.watch_recording.specs.declared.Step.TheVariants as S
-use Rattle.watch_hear.specs.declared.Stop.{Stop}
-use Rattle.watch_hear.specs.declared.Stop.TheVariants.{End, Cut, BadFlag, Refused}
+use Rattle.watch_recording.specs.declared.Hop.{Hop}
+use Rattle.watch_recording.specs.declared.Stop.{Stop}
+use Rattle.watch_recording.specs.declared.Stop.TheVariants.{Refused}
 use Rattle.watch_hear.specs.Judged.{Judged, judged}
 
 -- the refusal of a number, as `number_of` has them; no call answers a number past the last
@@ -41,9 +40,6 @@ abbrev pub answered : ℕ → Judged → Left
 answered size j = (answer_of size j.0, j.1, j.2, j.3, j.4, j.5, j.6, j.7, j.8)
 
 -- by what was read where the hop is due: only a whole hop changes anything
-unfoldable pub heard_of : Step → Bool → List ℕ → List Float → List ℕ → List Float → List ℕ → List Float → GateHop → List ℕ → List ℕ → Left
-heard_of S.End carries bu bf wu wf gu gf h rise drop = (Err End, bu, bf, wu, wf, gu, gf, rise, drop)
-heard_of (S.Cut got) carries bu bf wu wf gu gf h rise drop = (Err (Cut got), bu, bf, wu, wf, gu, gf, rise, drop)
-heard_of (S.BadFlag flag) carries bu bf wu wf gu gf h rise drop = (Err (BadFlag flag), bu, bf, wu, wf, gu, gf, rise, drop)
-heard_of (S.Refused r) carries bu bf wu wf gu gf h rise drop = (Err (Refused r), bu, bf, wu, wf, gu, gf, rise, drop)
-heard_of (S.Hop heard size) carries bu bf wu wf gu gf h rise drop = answered size (judged carries heard bu bf wu wf gu gf h rise drop)
+unfoldable pub heard_of : Result Hop Stop → Bool → List ℕ → List Float → List ℕ → List Float → List ℕ → List Float → GateHop → List ℕ → List ℕ → Left
+heard_of (Ok s) carries bu bf wu wf gu gf h rise drop = answered s.size (judged carries s.is_static bu bf wu wf gu gf h rise drop)
+heard_of (Err stop) carries bu bf wu wf gu gf h rise drop = (Err stop, bu, bf, wu, wf, gu, gf, rise, drop)

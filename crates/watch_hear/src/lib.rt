@@ -10,20 +10,7 @@ ghost use Rattle.watch_hear.specs.Judged.{gate_judged, judged};
 ghost use Rattle.watch_hear.specs.Heard.{answer_of, heard_of};
 
 use refusals::Refusal;
-use watch_recording::Step;
-
-// Why a hop was not taken.
-#[derive(Clone, Copy, Debug, PartialEq, Eq)]
-pub enum Stop {
-    // The recording ends here.
-    End,
-    // It ends so many bytes into the hop.
-    Cut(usize),
-    // A flag byte with a bit that means nothing.
-    BadFlag(u8),
-    // The reader of a log, the bank or the gate refused.
-    Refused(Refusal),
-}
+use watch_recording::{Hop, Stop};
 
 // With static heard the gate holds.
 fn judge_gate(
@@ -90,16 +77,13 @@ fn judge(
 fn taken(judged: Result<(), Refusal>, size: usize) -> Result<usize, Stop>
     ensures { result ≡ answer_of size (answer judged) }
 {
-    match judged {
-        Ok(()) => Ok(size),
-        Err(refusal) => Err(Stop::Refused(refusal)),
-    }
+    judged?;
+    Ok(size)
 }
 
 // What was read where a hop is due: a whole hop goes to the bank and the gate. How many bytes it has, or why it was not taken.
-#[tactic(auto, unfolding(crate::specs::Heard::heard_of))]
 pub fn hear(
-    step: Step,
+    step: Result<Hop, Stop>,
     carries: bool,
     bank: &mut [u16],
     bank_f: &mut [f64],
@@ -114,17 +98,11 @@ pub fn hear(
 ) -> Result<usize, Stop>
     ensures { (result, bank.new, bank_f.new, worst.new, worst_f.new, gate.new, gate_f.new, rise.new, drop.new) ≡ heard_of step carries bank.old bank_f.old worst.old worst_f.old gate.old gate_f.old (record { db = db.now; power = power.now }) rise.old drop.old }
 {
-    match step {
-        Step::End => Err(Stop::End),
-        Step::Cut(got) => Err(Stop::Cut(got)),
-        Step::BadFlag(flag) => Err(Stop::BadFlag(flag)),
-        Step::Refused(refusal) => Err(Stop::Refused(refusal)),
-        Step::Hop(is_static, size) => taken(
-            judge(
-                carries, is_static, bank, bank_f, worst, worst_f, gate, gate_f, db, power, rise,
-                drop,
-            ),
-            size,
+    let Hop { is_static, size } = step?;
+    taken(
+        judge(
+            carries, is_static, bank, bank_f, worst, worst_f, gate, gate_f, db, power, rise, drop,
         ),
-    }
+        size,
+    )
 }

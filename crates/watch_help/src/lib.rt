@@ -85,22 +85,17 @@ fn print_report() {
     say(b"what came before is still reported.\n");
 }
 
-fn cry(text: &[u8]) {
-    io::write_all(STDERR, text);
-}
-
-fn print_reason(fault: Fault) {
+fn words_of(fault: Fault) -> &'static [u8] {
     match fault {
-        Fault::Unknown => cry(b" is no option; watch --help lists them\n"),
-        Fault::BadLevel => cry(b" is no level: whole eighths of a dB from -100 to 100, as 6.5\n"),
-        Fault::BadLengths => cry(
+        Fault::Unknown => b" is no option; watch --help lists them\n",
+        Fault::BadLevel => b" is no level: whole eighths of a dB from -100 to 100, as 6.5\n",
+        Fault::BadLengths =>
             b" is no list of one to eight lengths of 1 to 375 hops, as 15,75,375\n",
-        ),
-        Fault::BadChannel => cry(b" is no channel: a number from 0 to 511\n"),
-        Fault::BadSpan => cry(b" is no span: a number of slow hops from 1 to 600\n"),
-        Fault::NoValue => cry(b" is the last word and needs a value\n"),
-        Fault::SecondFile => cry(b" is a second file; watch takes one\n"),
-        Fault::TooLong => cry(b" is too long\n"),
+        Fault::BadChannel => b" is no channel: a number from 0 to 511\n",
+        Fault::BadSpan => b" is no span: a number of slow hops from 1 to 600\n",
+        Fault::NoValue => b" is the last word and needs a value\n",
+        Fault::SecondFile => b" is a second file; watch takes one\n",
+        Fault::TooLong => b" is too long\n",
     }
 }
 
@@ -108,11 +103,11 @@ fn print_reason(fault: Fault) {
 pub fn print_fault(env: &impl Env, fault: Fault, i: usize) {
     let mut word = io::buffer();
     let len = env.arg(i, &mut word).unwrap_or(0);
-    cry(b"watch: word ");
+    io::write_all(STDERR, b"watch: word ");
     // No From leads from usize to u64.
     io::print_decimal(STDERR, i as u64);
-    cry(b", ");
-    cry(&word[..len]);
-    cry(b",");
-    print_reason(fault);
+    io::write_all(STDERR, b", ");
+    io::write_all(STDERR, &word[..len]);
+    io::write_all(STDERR, b",");
+    io::write_all(STDERR, words_of(fault));
 }

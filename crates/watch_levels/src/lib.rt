@@ -5,7 +5,7 @@ ghost use Rattle.std.specs.Prelude.{◌≡◌, ◌≤◌, ◌<◌, false};
 ghost use Rattle.watch_levels.specs.Levels.{nothing as levels_nothing, pointed, part_digit};
 ghost use Rattle.watch_levels.specs.Levels.{digit as levels_digit, step, decimal_of, level, whole_eighths, level_of, signed_of, early_of};
 
-// An absent early level, as the gate takes it.
+// An absent early level, as the gate takes it: that call is C's too, so it has a number for none.
 pub const ABSENT: i32 = 65535;
 
 // What a word has said so far, read as a number in thousandths.
@@ -14,6 +14,7 @@ pub struct Decimal {
     // What the next digit is worth: 1,000 before the point, then 100, 10, 1 and nothing.
     pub unit: u16,
     pub thousandths: u64,
+    // Whether a digit was read. No Option of the number: digits are added to what is there, and that is 0 at first.
     pub has_digit: bool,
 }
 
@@ -90,7 +91,8 @@ fn decimal_step(decimal: Option<Decimal>, b: u8) -> Option<Decimal>
     }
 }
 
-// A level of so many eighths of a dB, 800 at most.
+// A level of so many eighths of a dB, 800 at most. The sign stands beside them: -0 is a word for a level, too, and keeps its sign, and a level is printed as a
+// sign and a size. Only the gate takes one number of both.
 #[derive(Clone, Copy, Debug, PartialEq, Eq)]
 pub struct Level {
     pub is_below: bool,
@@ -100,11 +102,8 @@ pub struct Level {
 fn decimal_of(word: &[u8]) -> Option<Decimal>
     ensures { result ≡ decimal_of word.now }
 {
-    let mut decimal = Some(nothing());
-    for b in word {
-        decimal = decimal_step(decimal, *b);
-    }
-    decimal
+    word.iter()
+        .fold(Some(nothing()), |decimal, b| decimal_step(decimal, *b))
 }
 
 // Whole eighths are 125 thousandths each; a level has at most 800 of them.

@@ -7,10 +7,9 @@ use Rattle.refusals.specs.declared.Refusal.{Refusal}
 use Rattle.refusals.specs.Numbers.{numbered}
 use Rattle.watch_text.specs.Text.{Written, put_all, right, decimal, thousandths, millis}
 use Rattle.watch_floats.specs.Floats.{db_text}
-use Rattle.watch_names.specs.Names.{change_name, state_name, event_name}
+use Rattle.watch_names.specs.Names.{change_name, state_name, event_name, effective_name, rise_name}
 use Rattle.origins.specs.Origins.{effective_db, rise_db}
 use Rattle.origins.specs.declared.Explanation.{Explanation}
-use Rattle.watch_origins.specs.Told.{effective_name, rise_name}
 use Rattle.watch_worst.specs.Told.{worst_text}
 
 -- one text after another

@@ -7,7 +7,7 @@ ghost use Rattle.watch_lines.specs.Lines.{put_texts, row_origins, explain_line, 
 
 use origins::Explanation;
 use watch_floats::put_db;
-use watch_origins::{put_effective_origin, put_rise_origin};
+use watch_names::put_name;
 use watch_text::{Line, put_number, put_seconds, put_text};
 
 // Where the floors of a channel come from.
@@ -19,9 +19,9 @@ pub fn put_explain_line(line: &mut Line, hop: u64, x: Explanation)
     put_number(line, hop, 8);
     put_seconds(line, hop, 10);
     put_db(line, origins::effective_db(effective), 11);
-    put_effective_origin(line, effective, 16);
+    put_name(line, &effective, 16);
     put_db(line, origins::rise_db(rise), 12);
-    put_rise_origin(line, rise, 17);
+    put_name(line, &rise, 17);
 }
 
 // Both origins of a channel at the end.
@@ -30,8 +30,8 @@ pub fn put_origins(line: &mut Line, x: Explanation)
 {
     let effective = x.effective;
     let rise = x.rise;
-    put_effective_origin(line, effective, 16);
-    put_rise_origin(line, rise, 17);
+    put_name(line, &effective, 16);
+    put_name(line, &rise, 17);
 }
 
 pub fn put_row_origins(line: &mut Line, x: Explanation)
@@ -40,7 +40,7 @@ pub fn put_row_origins(line: &mut Line, x: Explanation)
     let effective = x.effective;
     let rise = x.rise;
     put_text(line, b",");
-    put_effective_origin(line, effective, 0);
+    put_name(line, &effective, 0);
     put_text(line, b",");
-    put_rise_origin(line, rise, 0);
+    put_name(line, &rise, 0);
 }

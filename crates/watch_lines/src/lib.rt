@@ -1,4 +1,5 @@
-// The lines of a report: which figure stands in which column.
+// The lines of a report: which figure stands in which column. The figures are parameters, and no struct: each kind of line has others, so a struct
+// would be made for one call and taken apart in it. Nor is there one for a column: its width is another number at each call.
 #![tactic(auto, using(crate::proofs::Texts::right_0, laws::proofs::Counts::flag), unfolding(crate::specs::Lines::put_texts))]
 
 pub mod explained;
@@ -15,7 +16,7 @@ use model::Floors;
 use origins::Explanation;
 use refusals::Refusal;
 use watch_floats::put_db;
-use watch_names::{put_change, put_event, put_state};
+use watch_names::{ChangeTo, Events, State, put_name};
 use watch_text::{Line, put_number, put_seconds, put_text};
 use watch_worst::put_worst;
 
@@ -34,7 +35,7 @@ pub fn put_change_line(
     put_seconds(line, hop, 10);
     // No From leads from usize to u64.
     put_number(line, k as u64, 9);
-    put_change(line, is_alive);
+    put_name(line, &ChangeTo(is_alive), 0);
     put_db(line, smoothed, 11);
     put_db(line, f.effective, 11);
     put_db(line, f.rise, 12);
@@ -94,7 +95,7 @@ fn put_row_end(line: &mut Line, is_alive: bool, event: u8)
     put_text(line, b",");
     put_number(line, u64::from(is_alive), 0);
     put_text(line, b",");
-    put_event(line, event);
+    put_name(line, &Events(event), 0);
 }
 
 // What stands above the channels at the end.
@@ -152,5 +153,5 @@ fn put_channel_end(line: &mut Line, alive_hops: u64, rises: u64, is_alive: bool)
 {
     put_seconds(line, alive_hops, 10);
     put_number(line, rises, 7);
-    put_state(line, is_alive);
+    put_name(line, &State(is_alive), 0);
 }

@@ -1,6 +1,10 @@
 -- The words of a report.
 use Rattle.std.specs.Prelude.{Bool, true, false, cond, List, [], ◌∷◌, ℕ, eqb}
 use Rattle.laws.specs.Texts.{ascii}
+use Rattle.origins.specs.declared.EffectiveOrigin.{EffectiveOrigin}
+use Rattle.origins.specs.declared.EffectiveOrigin.TheVariants as E
+use Rattle.origins.specs.declared.RiseOrigin.{RiseOrigin}
+use Rattle.origins.specs.declared.RiseOrigin.TheVariants as R
 
 -- what became of a channel; true: it came alive
 abbrev pub change_name : Bool → List ℕ
@@ -49,3 +53,14 @@ refusal_name r =
     ∷ (9, ascii "unsound")
     ∷ [])
     (request_refusal_name r) r
+
+-- where floors come from (document 02, R-4), in its words
+abbrev pub effective_name : EffectiveOrigin → List ℕ
+effective_name (E.OwnQuartile x) = ascii "own quartile"
+effective_name (E.BlockPlus3 x) = ascii "block plus 3"
+effective_name (E.Seed x) = ascii "seed"
+
+abbrev pub rise_name : RiseOrigin → List ℕ
+rise_name (R.EffectiveFloor x) = ascii "effective floor"
+rise_name (R.Block x) = ascii "block"
+rise_name (R.Seed x) = ascii "seed"

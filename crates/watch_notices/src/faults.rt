@@ -1,6 +1,5 @@
 // What is wrong with a recording or a log, on standard error, with the hop and the byte.
 use crate::Watched;
-use crate::out::cry;
 use refusals::Refusal;
 use streams::{STDERR, Source};
 use watch_fault_lines::{
@@ -13,11 +12,12 @@ use watch_text::Line;
 fn cry_of(name: &[u8], line: &Line) {
     io::write_all(STDERR, b"watch: ");
     io::write_all(STDERR, name);
-    cry(line);
+    io::write_all(STDERR, line.text());
 }
 
 // The input ended or failed within what was due: one read more tells which.
 fn cry_short(source: &Source, what: &[u8]) {
+    // On the stack: there is no heap.
     let mut more = [0u8; 1];
     match streams::try_read(source, &mut more) {
         Ok(_) => {
@@ -47,7 +47,7 @@ pub fn print_too_large(w: Watched, needed: usize, most: usize) {
     cry_of(w.name, &line);
 }
 
-// A refusal before the first hop.
+// A refusal before the first hop, where there is no `Place` to tell.
 pub fn print_refusal(w: Watched, refusal: Refusal) {
     let mut line = Line::new();
     put_refused(&mut line, 0, 0, refusal);

@@ -1,6 +1,5 @@
 // The head of a report: the settings, or the names of the columns.
 use crate::Watched;
-use crate::out::say;
 use streams::STDOUT;
 use watch_figures::thousandths;
 use watch_levels::Level;
@@ -45,7 +44,7 @@ fn put_linear(line: &mut Line, is_linear: bool) {
     }
 }
 
-fn print_settings(s: Settings, lengths: &[u16], n: u16) {
+fn print_settings(s: Settings, n: u16) {
     let mut line = Line::new();
     put_number(&mut line, u64::from(n), 0);
     put_text(&mut line, b" channels, 375 hops a second. On ");
@@ -55,15 +54,15 @@ fn print_settings(s: Settings, lengths: &[u16], n: u16) {
     put_text(&mut line, b", early ");
     put_early(&mut line, s.early);
     put_text(&mut line, b"; windows of");
-    put_lengths(&mut line, lengths);
+    put_lengths(&mut line, s.lengths.given());
     put_text(&mut line, b" hops.");
     put_span(&mut line, s.worst);
     put_linear(&mut line, s.is_linear);
     put_text(&mut line, b"\n\n");
-    say(&line);
+    io::write_all(STDOUT, line.text());
 }
 
-pub fn print_head(w: Watched, lengths: &[u16]) {
+pub fn print_head(w: Watched) {
     let s = w.s;
     if s.is_csv {
         print_csv_head(s);
@@ -72,7 +71,7 @@ pub fn print_head(w: Watched, lengths: &[u16]) {
     io::write_all(STDOUT, b"Watching ");
     io::write_all(STDOUT, w.name);
     io::write_all(STDOUT, b": ");
-    print_settings(s, lengths, w.n);
+    print_settings(s, w.n);
     if let Some(k) = s.explained {
         print_explain_head(k);
         return;
@@ -93,7 +92,7 @@ fn print_explain_head(k: usize) {
     // No From leads from usize to u64.
     put_number(&mut line, k as u64, 0);
     put_text(&mut line, b" come from:\n\n");
-    say(&line);
+    io::write_all(STDOUT, line.text());
     io::write_all(
         STDOUT,
         b"     hop   seconds  effective  effective from  rise floor  rise floor from\n",

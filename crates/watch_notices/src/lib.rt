@@ -3,7 +3,6 @@
 
 pub mod faults;
 pub mod head;
-pub mod out;
 
 use streams::Source;
 use watch_words::Settings;

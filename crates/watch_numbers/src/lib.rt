@@ -24,20 +24,12 @@ fn digit_step(number: Option<usize>, b: u8) -> Option<usize>
     Some(10 * v + usize::from(b - b'0'))
 }
 
-fn number_of(word: &[u8]) -> Option<usize>
-    ensures { result ≡ foldl step (Some 0) word.now }
-{
-    let mut number = Some(0);
-    for b in word {
-        number = digit_step(number, *b);
-    }
-    number
-}
-
 fn number_within(word: &[u8], low: usize, high: usize) -> Option<usize>
     ensures { result ≡ from_to low high (foldl step (Some 0) word.now) }
 {
-    let v = number_of(word)?;
+    let v = word
+        .iter()
+        .fold(Some(0), |number, b| digit_step(number, *b))?;
     if v < low || v > high {
         return None;
     }

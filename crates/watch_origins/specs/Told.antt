@@ -1,26 +1,12 @@
--- Where floors come from (document 02, R-4), in words, and when that is worth a line.
-use Rattle.std.specs.Prelude.{Bool, ◌||◌, List, ℕ, Float}
+-- Where floors come from (document 02, R-4), and when that is worth a line.
+use Rattle.std.specs.Prelude.{Bool, ◌||◌, Float}
 use Rattle.std.specs.Float.{nan, binary64}
 use Rattle.std.specs.Float.Ieee.{sub, le, of_bits}
-use Rattle.laws.specs.Texts.{ascii}
 use Rattle.laws.specs.Tests.{differ}
 use Rattle.origins.specs.Origins.{effective_number, effective_db, rise_number, rise_db}
-use Rattle.origins.specs.declared.EffectiveOrigin.{EffectiveOrigin}
 use Rattle.origins.specs.declared.EffectiveOrigin.TheVariants as E
-use Rattle.origins.specs.declared.RiseOrigin.{RiseOrigin}
 use Rattle.origins.specs.declared.RiseOrigin.TheVariants as R
 use Rattle.origins.specs.declared.Explanation.{Explanation}
-
--- document 02's words
-abbrev pub effective_name : EffectiveOrigin → List ℕ
-effective_name (E.OwnQuartile x) = ascii "own quartile"
-effective_name (E.BlockPlus3 x) = ascii "block plus 3"
-effective_name (E.Seed x) = ascii "seed"
-
-abbrev pub rise_name : RiseOrigin → List ℕ
-rise_name (R.EffectiveFloor x) = ascii "effective floor"
-rise_name (R.Block x) = ascii "block"
-rise_name (R.Seed x) = ascii "seed"
 
 -- what stands for a refused explanation
 abbrev pub no_explanation : Explanation

@@ -1,36 +1,13 @@
-// Where floors come from (document 02, R-4), in words, and when that is worth a line.
+// Where floors come from (document 02, R-4), and when that is worth a line.
 #![tactic(auto)]
 
 ghost use Rattle.std.specs.Prelude.{◌≡◌};
 ghost use Rattle.refusals.specs.Numbers.{numbered};
 ghost use Rattle.refusals.specs.Readings.{value_or};
-ghost use Rattle.watch_text.specs.Text.{written, put_all, right};
-ghost use Rattle.watch_origins.specs.Told.{effective_name, rise_name, no_explanation, is_news, jumps as told_jumps};
+ghost use Rattle.watch_origins.specs.Told.{no_explanation, is_news, jumps as told_jumps};
 
 use origins::{EffectiveOrigin, Explanation, RiseOrigin};
 use refusals::Refusal;
-use watch_text::{Line, put_right};
-
-// The words of document 02, at the right of a column.
-pub fn put_effective_origin(line: &mut Line, origin: EffectiveOrigin, width: usize)
-    ensures { written line.new ≡ put_all (written line.old) (right width (effective_name origin)) }
-{
-    match origin {
-        EffectiveOrigin::OwnQuartile(_) => put_right(line, b"own quartile", width),
-        EffectiveOrigin::BlockPlus3(_) => put_right(line, b"block plus 3", width),
-        EffectiveOrigin::Seed(_) => put_right(line, b"seed", width),
-    }
-}
-
-pub fn put_rise_origin(line: &mut Line, origin: RiseOrigin, width: usize)
-    ensures { written line.new ≡ put_all (written line.old) (right width (rise_name origin)) }
-{
-    match origin {
-        RiseOrigin::EffectiveFloor(_) => put_right(line, b"effective floor", width),
-        RiseOrigin::Block(_) => put_right(line, b"block", width),
-        RiseOrigin::Seed(_) => put_right(line, b"seed", width),
-    }
-}
 
 // What stands for an explanation that is refused: no number.
 pub fn no_explanation() -> Explanation
@@ -55,7 +32,7 @@ fn jumps(a: f64, b: f64) -> bool
     a - b >= 1.0 || b - a >= 1.0
 }
 
-// An origin has changed, or a floor has jumped.
+// An origin has changed, or a floor has jumped. Origins are compared by their numbers: == would compare the floors that they hold, too.
 #[tactic(auto, unfolding(crate::specs::Told::is_news))]
 pub fn is_news(before: Explanation, now: Explanation) -> bool
     ensures { result ≡ is_news before now }

@@ -11,18 +11,19 @@ use streams::{STDERR, Source};
 use watch_words::{Fault, Settings};
 
 // The words of the command line from one on and up to another, one after another.
-fn read_words(env: &impl Env, first: usize, end: usize, lengths: &mut [u16; 8]) -> Settings {
+fn read_words(env: &impl Env, first: usize, end: usize) -> Settings {
     let mut s = watch_words::default_settings();
+    // Over indices: the system is asked for a word by its number, and a fault names it by that.
     for i in first..end {
-        s = read_word(env, s, i, lengths);
+        s = read_word(env, s, i);
     }
     watch_words::taken(s)
 }
 
-fn read_word(env: &impl Env, s: Settings, i: usize, lengths: &mut [u16; 8]) -> Settings {
+fn read_word(env: &impl Env, s: Settings, i: usize) -> Settings {
     let mut word = io::buffer();
     match env.arg(i, &mut word) {
-        Ok(len) => watch_words::take_word(s, i, &word[..len], lengths),
+        Ok(len) => watch_words::take_word(s, i, &word[..len]),
         Err(_) => watch_words::faulty(s, Fault::TooLong, i),
     }
 }
@@ -35,9 +36,9 @@ fn open(files: &impl Files<File = File>, name: &[u8]) -> Result<File> {
     }
 }
 
-fn watch_named(files: &impl Files<File = File>, name: &[u8], s: Settings, lengths: &[u16; 8]) {
+fn watch_named(files: &impl Files<File = File>, name: &[u8], s: Settings) {
     match open(files, name) {
-        Ok(file) => stores_of::watch_open(&Source::Named(file), name, s, lengths),
+        Ok(file) => stores_of::watch_open(&Source::Named(file), name, s),
         Err(why) => {
             io::write_all(STDERR, b"watch: ");
             streams::fail(name, why);
@@ -46,24 +47,19 @@ fn watch_named(files: &impl Files<File = File>, name: &[u8], s: Settings, length
 }
 
 // The word of this number names what is watched.
-fn watch_file(
-    rt: &(impl Env + Files<File = File>),
-    input: Stdin,
-    file: usize,
-    s: Settings,
-    lengths: &[u16; 8],
-) {
+fn watch_file(rt: &(impl Env + Files<File = File>), input: Stdin, file: usize, s: Settings) {
     let mut name = io::buffer();
     let len = rt.arg(file, &mut name).unwrap_or(0);
     if &name[..len] == b"-".as_slice() {
-        stores_of::watch_open(&Source::Input(input), b"standard input", s, lengths);
+        stores_of::watch_open(&Source::Input(input), b"standard input", s);
         return;
     }
-    watch_named(rt, &name[..len], s, lengths);
+    watch_named(rt, &name[..len], s);
 }
 
 // How many words the command line has, the program's own name among them.
 fn word_count(env: &impl Env) -> usize {
+    // Over indices: the number of the first word that is missing is the answer, and only the system knows it.
     for i in 0..usize::MAX {
         if let Err(FillError::NotPresent) = env.arg(i, &mut []) {
             return i;
@@ -78,18 +74,17 @@ pub fn run(rt: &(impl Env + Files<File = File>), input: Stdin) {
 
 // As if these words were all of the command line. The kept runs stand one after another on one.
 pub fn run_words(rt: &(impl Env + Files<File = File>), input: Stdin, first: usize, end: usize) {
-    let mut lengths = watch_words::default_lengths();
-    let s = read_words(rt, first, end, &mut lengths);
+    let s = read_words(rt, first, end);
     if s.is_help {
         watch_help::print_help();
         return;
     }
-    if let Some(fault) = s.fault {
-        watch_help::print_fault(rt, fault, s.word);
+    if let Some((fault, i)) = s.fault {
+        watch_help::print_fault(rt, fault, i);
         return;
     }
     match s.file {
-        Some(file) => watch_file(rt, input, file, s, &lengths),
+        Some(file) => watch_file(rt, input, file, s),
         None => {
             io::write_all(
                 STDERR,

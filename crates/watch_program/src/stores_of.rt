@@ -1,4 +1,4 @@
-// The stores that a recording or a log needs, on the stack, and their parts.
+// The stores that a recording or a log needs, on the stack, since there is no heap, and their parts.
 use crate::hops::watch_hops;
 use model::layout::{BLOCK_CHANNELS, BLOCK_REST, CHANNEL_LEN};
 use refusals::Refusal;
@@ -26,7 +26,7 @@ const GATE: usize = 30;
 // A gate of 512 channels with windows of 15, 75 and 375 hops takes 480,768; all stores together, 7.1 MB, fit a stack of 8 MB.
 const MOST_GATE_F: usize = 500000;
 
-pub fn watch_open(source: &Source, name: &[u8], s: Settings, lengths: &[u16; 8]) {
+pub fn watch_open(source: &Source, name: &[u8], s: Settings) {
     let mut two = [0u8; 2];
     let got = streams::read_full(source, &mut two);
     if got < 2 {
@@ -38,22 +38,20 @@ pub fn watch_open(source: &Source, name: &[u8], s: Settings, lengths: &[u16; 8])
         faults::print_bad_band(name, n);
         return;
     }
-    watch_channels(Watched { source, name, s, n }, lengths);
+    watch_channels(Watched { source, name, s, n });
 }
 
-fn watch_channels(w: Watched, lengths: &[u16]) {
-    if let Some(lengths) = lengths.get(..w.s.lengths) {
-        let gate_f_len = gate_making::gate_f_len(usize::from(w.n), lengths);
-        if gate_f_len > MOST_GATE_F {
-            faults::print_too_large(w, gate_f_len, MOST_GATE_F);
-            return;
-        }
-        watch_sized(w, lengths, gate_f_len);
+fn watch_channels(w: Watched) {
+    let gate_f_len = gate_making::gate_f_len(usize::from(w.n), w.s.lengths.given());
+    if gate_f_len > MOST_GATE_F {
+        faults::print_too_large(w, gate_f_len, MOST_GATE_F);
+        return;
     }
+    watch_sized(w, gate_f_len);
 }
 
 // Lends the parts of the stores that the recording takes.
-fn watch_sized(w: Watched, lengths: &[u16], gate_f_len: usize) {
+fn watch_sized(w: Watched, gate_f_len: usize) {
     let n = usize::from(w.n);
     let bank_len = store_sizes::bank_len(n);
     let bank_f_len = store_sizes::bank_f_len(n);
@@ -82,13 +80,13 @@ fn watch_sized(w: Watched, lengths: &[u16], gate_f_len: usize) {
         gate: &mut gate,
         gate_f: &mut gate_f[..gate_f_len],
     };
-    watch_with(w, lengths, &mut stores);
+    watch_with(w, &mut stores);
 }
 
-fn make_all(w: Watched, lengths: &[u16], stores: &mut Stores) -> Result<(), Refusal> {
+fn make_all(w: Watched, stores: &mut Stores) -> Result<(), Refusal> {
     make(
         w.s,
-        lengths,
+        w.s.lengths.given(),
         w.n,
         stores.bank,
         stores.bank_f,
@@ -99,8 +97,8 @@ fn make_all(w: Watched, lengths: &[u16], stores: &mut Stores) -> Result<(), Refu
 }
 
 // Makes the stores, and watches the hops.
-fn watch_with(w: Watched, lengths: &[u16], stores: &mut Stores) {
-    if let Err(refusal) = make_all(w, lengths, stores) {
+fn watch_with(w: Watched, stores: &mut Stores) {
+    if let Err(refusal) = make_all(w, stores) {
         faults::print_refusal(w, refusal);
         return;
     }
@@ -109,6 +107,6 @@ fn watch_with(w: Watched, lengths: &[u16], stores: &mut Stores) {
         faults::print_refusal(w, Refusal::Channel);
         return;
     }
-    head::print_head(w, lengths);
+    head::print_head(w);
     watch_hops(w, stores);
 }

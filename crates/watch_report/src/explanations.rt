@@ -3,8 +3,8 @@ ghost use Rattle.std.specs.Prelude.{◌≡◌};
 ghost use Rattle.watch_report.specs.Shown.{explanation_shown, explanation_before};
 
 use origins::Explanation;
+use streams::STDOUT;
 use watch_lines::explained::put_explain_line;
-use watch_notices::out::say;
 use watch_origins::{explanation_of, is_news, no_explanation};
 use watch_stores::Stores;
 use watch_text::{Line, put_text};
@@ -16,7 +16,8 @@ pub fn explanation_shown(bank: &[u16], bank_f: &[f64], k: usize) -> Explanation
     explanation_of(explain::explain(bank, bank_f, k))
 }
 
-// What a hop is held against: the floors as they are before it is heard. Where nothing is to be explained nothing is worked out.
+// What a hop is held against: the floors as they are before it is heard. Where nothing is to be explained nothing is worked out, and
+// no number stands for it. No Option: it is looked at only where the settings name a channel, and would be asked there a second time.
 pub fn explanation_before(s: Settings, stores: &Stores) -> Explanation
     ensures { result ≡ explanation_before s.explained stores.now.bank.now stores.now.bank_f.now }
 {
@@ -38,5 +39,5 @@ fn print_line(hop: u64, x: Explanation) {
     let mut line = Line::new();
     put_explain_line(&mut line, hop, x);
     put_text(&mut line, b"\n");
-    say(&line);
+    io::write_all(STDOUT, line.text());
 }

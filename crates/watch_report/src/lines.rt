@@ -9,11 +9,11 @@ use crate::explanations::{explanation_shown, print_explanation};
 use crate::out::{floors_shown, put_reference, worst_shown};
 use origins::Explanation;
 use refusals::Refusal;
+use streams::{STDERR, STDOUT};
 use watch_figures::{ends_minute, float_at, value, whole_seconds};
 use watch_floats::put_power;
 use watch_lines::{put_change_line, put_row_line};
-use watch_notices::out::{cry, say};
-use watch_states::{Change, change_at, mark_at, next_state};
+use watch_states::{Change, change_at, next_state};
 use watch_stores::Stores;
 use watch_text::{Line, put_number, put_text};
 use watch_words::Settings;
@@ -36,7 +36,7 @@ fn print_progress(hop: u64) {
         put_text(&mut line, b"watch: ");
         put_number(&mut line, whole_seconds(hop), 0);
         put_text(&mut line, b" s read\n");
-        cry(&line);
+        io::write_all(STDERR, line.text());
     }
 }
 
@@ -56,7 +56,9 @@ pub fn print_hop(hop: u64, s: Settings, before: Explanation, stores: &Stores, at
     print_changes(hop, s, stores, at);
 }
 
+// A change goes on as a bool, whether the channel is alive now: by that its reference is shown, too.
 fn print_changes(hop: u64, s: Settings, stores: &Stores, at: Channels) {
+    // Over indices, here and for rows: k is the channel that is printed, and by which its readings are asked for.
     for k in 0..at.alive.len() {
         match change_at(at.alive, at.rise, at.drop, k) {
             None => {}
@@ -66,6 +68,7 @@ fn print_changes(hop: u64, s: Settings, stores: &Stores, at: Channels) {
     }
 }
 
+// The gate's smoothed dB of a channel. `floors_shown` is no twin of it but in form: each is one call of another store's reading.
 fn smoothed_shown(gate: &[u16], gate_f: &[f64], k: usize) -> f64
     ensures { result ≡ smoothed_shown gate.now gate_f.now k }
 {
@@ -105,14 +108,15 @@ fn print_change(hop: u64, s: Settings, stores: &Stores, k: usize, is_alive: bool
     let is_shown = s.has_reference && is_alive;
     put_reference(&mut line, stores.bank, stores.bank_f, k, is_shown);
     put_text(&mut line, b"\n");
-    say(&line);
+    io::write_all(STDOUT, line.text());
 }
 
 fn print_rows(hop: u64, s: Settings, stores: &Stores, at: Channels) {
     for k in 0..at.alive.len() {
         let db = float_at(at.db, k);
         let is_alive = next_state(at.alive, at.rise, at.drop, k);
-        print_row(hop, s, db, stores, k, is_alive, mark_at(at.events, k));
+        let event = at.events.get(k).copied().unwrap_or(0);
+        print_row(hop, s, db, stores, k, is_alive, event);
     }
 }
 
@@ -148,7 +152,7 @@ fn print_row(hop: u64, s: Settings, db: f64, stores: &Stores, k: usize, is_alive
     let w = worst_shown(s, bank, bank_f, stores.worst, stores.worst_f, k);
     put_csv_worst(&mut line, w);
     put_text(&mut line, b"\n");
-    say(&line);
+    io::write_all(STDOUT, line.text());
 }
 
 #[tactic(auto, using(watch_lines::proofs::Texts::right_0), unfolding(watch_lines::specs::Lines::put_texts))]

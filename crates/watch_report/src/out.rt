@@ -30,10 +30,8 @@ pub fn worst_shown(
 ) -> Option<Result<Option<f64>, Refusal>>
     ensures { worst_told result ≡ worst_shown s.worst bank.now bank_f.now worst.now worst_f.now k }
 {
-    match s.worst {
-        Some(_) => Some(worst::worst_floor(bank, bank_f, worst, worst_f, k)),
-        None => None,
-    }
+    s.worst
+        .map(|_| worst::worst_floor(bank, bank_f, worst, worst_f, k))
 }
 
 // The spectral reference of a channel, at the right of a column.

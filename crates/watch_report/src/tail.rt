@@ -3,7 +3,6 @@ use crate::explanations::explanation_shown;
 use crate::out::{floors_shown, put_reference, worst_shown};
 use streams::STDOUT;
 use watch_lines::{put_channel_line, put_total_line};
-use watch_notices::out::say;
 use watch_stores::Stores;
 use watch_text::{Line, put_text};
 use watch_words::Settings;
@@ -24,14 +23,15 @@ pub fn print_tail(s: Settings, hops: u64, stores: &Stores, kept: &Kept) {
         return;
     }
     print_total(s, hops);
+    // Over indices: k is the channel that is printed, and by which its readings are asked for.
     for k in 0..kept.alive.len() {
         print_channel(
             s,
             stores,
             k,
             watch_states::is_set(kept.alive, k),
-            watch_states::count_at(kept.alive_hops, k),
-            watch_states::count_at(kept.rises, k),
+            kept.alive_hops.get(k).copied().unwrap_or(0),
+            kept.rises.get(k).copied().unwrap_or(0),
         );
     }
 }
@@ -39,7 +39,7 @@ pub fn print_tail(s: Settings, hops: u64, stores: &Stores, kept: &Kept) {
 fn print_total(s: Settings, hops: u64) {
     let mut line = Line::new();
     put_total_line(&mut line, hops);
-    say(&line);
+    io::write_all(STDOUT, line.text());
     io::write_all(STDOUT, b"channel        raw  effective  rise floor");
     if s.worst.is_some() {
         io::write_all(STDOUT, b"  worst of late");
@@ -73,5 +73,5 @@ fn print_channel(
     let is_shown = s.has_reference && is_alive;
     put_reference(&mut line, stores.bank, stores.bank_f, k, is_shown);
     put_text(&mut line, b"\n");
-    say(&line);
+    io::write_all(STDOUT, line.text());
 }

@@ -1,10 +1,11 @@
-// The hops of a recording or a log one after another, by single calls: each read, heard, told and counted.
+// The hops of a recording or a log one after another, by single calls: each read, heard, told and counted. The values and the marks of a hop are
+// four slices, as the calls that read and hear it take them: a struct of them would be taken apart at each.
 #![tactic(auto)]
 
 use watch_follow::{Marked, follow};
-use watch_hear::{Stop, hear};
+use watch_hear::hear;
 use watch_notices::Watched;
-use watch_recording::{MOST, Step};
+use watch_recording::{Hop, MOST, Stop};
 use watch_report::explanations::explanation_before;
 use watch_report::tail::{Kept, print_tail};
 use watch_stores::Stores;
@@ -18,6 +19,7 @@ struct Patterns<'a> {
 
 // Lends each list at the size of what is watched. Before the first hop of a log all bit patterns are zero.
 pub fn watch_each(w: Watched, stores: &mut Stores) {
+    // No heap: room for the most channels.
     let mut bits = [0u64; MOST];
     let mut powers = [0u32; MOST];
     let mut db = [0.0f64; MOST];
@@ -52,7 +54,7 @@ pub fn watch_each(w: Watched, stores: &mut Stores) {
 }
 
 // The next hop as it was kept, in a log or in a recording.
-fn read_kept(w: Watched, p: &mut Patterns, db: &mut [f64], power: &mut [f32]) -> Step {
+fn read_kept(w: Watched, p: &mut Patterns, db: &mut [f64], power: &mut [f32]) -> Result<Hop, Stop> {
     if w.s.is_log {
         return watch_log::read_hop(w.source, w.n, p.bits, p.powers, db, power);
     }
@@ -60,7 +62,7 @@ fn read_kept(w: Watched, p: &mut Patterns, db: &mut [f64], power: &mut [f32]) ->
 }
 
 // The next hop, its dB as read or as worked out from its powers (R-13).
-fn read_hop(w: Watched, p: &mut Patterns, db: &mut [f64], power: &mut [f32]) -> Step {
+fn read_hop(w: Watched, p: &mut Patterns, db: &mut [f64], power: &mut [f32]) -> Result<Hop, Stop> {
     let step = read_kept(w, p, db, power);
     if w.s.is_linear {
         watch_decibels::work_out(db, power);
@@ -95,7 +97,7 @@ fn hear_next(
     )
 }
 
-// Nothing that is watched has as many hops as there are turns.
+// Nothing that is watched has as many hops as there are turns: the range has an end since a loop must have one.
 fn watch_all(
     w: Watched,
     stores: &mut Stores,
@@ -108,9 +110,6 @@ fn watch_all(
 ) {
     let mut place = watch_recording::first_place();
     for _ in 0..u64::MAX {
-        if !place.is_on {
-            break;
-        }
         let before = explanation_before(w.s, stores);
         let heard = hear_next(w, stores, patterns, db, power, rise, drop);
         let hop = Marked {
@@ -118,7 +117,7 @@ fn watch_all(
             rise: &*rise,
             drop: &*drop,
         };
-        place = follow(
+        let next = follow(
             w,
             place,
             heard,
@@ -130,6 +129,10 @@ fn watch_all(
             kept.events,
             kept.rises,
         );
+        match next {
+            Some(next) => place = next,
+            None => break,
+        }
     }
     print_tail(w.s, place.hop, stores, kept);
 }

@@ -1,7 +1,8 @@
-// Which channels are alive. Marks and states are bytes, 1 where set, as the gate writes its marks: one function reads both.
+// Which channels are alive. Marks and states are bytes, 1 where set, as the gate writes its marks: one function reads both. Rises and drops come as
+// the two slices that the gate's calls write.
 #![tactic(auto)]
 
-ghost use Rattle.std.specs.Prelude.{◌≡◌, length, slice_index};
+ghost use Rattle.std.specs.Prelude.{◌≡◌, length};
 ghost use Rattle.laws.specs.Lists.{tab};
 ghost use Rattle.watch_states.specs.States.{state_after, states_after, counts_after, change_of, change_at, rises_after, events_after, hop_closed, is_set, noted_of};
 
@@ -22,7 +23,7 @@ pub fn state_after(is_alive: bool, is_rise: bool, is_drop: bool) -> bool
 pub fn is_set(marks: &[u8], k: usize) -> bool
     ensures { result ≡ is_set marks.now k }
 {
-    k < marks.len() && marks[k] == 1
+    marks.get(k) == Some(&1)
 }
 
 // The states after the marks of a hop.
@@ -59,7 +60,7 @@ pub fn change_at(alive: &[u8], rise: &[u8], drop: &[u8], k: usize) -> Option<Cha
     change_between(is_set(alive, k), next_state(alive, rise, drop, k))
 }
 
-// A change as it is noted among others, by its bit.
+// A change as it is noted among others, by its bit: a channel can come alive and become idle again before the next slow hop.
 fn noted(change: Option<Change>) -> u8
     ensures { result ≡ noted_of change }
 {
@@ -79,24 +80,14 @@ pub fn count_set(counts: &mut [u64], marks: &[u8])
     }
 }
 
-pub fn mark_at(marks: &[u8], k: usize) -> u8
-    ensures { result ≡ slice_index marks.now k }
-{
-    marks.get(k).copied().unwrap_or(0)
-}
-
-pub fn count_at(counts: &[u64], k: usize) -> u64
-    ensures { result ≡ slice_index counts.now k }
-{
-    counts.get(k).copied().unwrap_or(0)
-}
-
 // One more for each channel that comes alive.
 pub fn count_rises(counts: &mut [u64], alive: &[u8], rise: &[u8], drop: &[u8])
     ensures { counts.new ≡ rises_after counts.old alive.now rise.now drop.now }
 {
     for (k, count) in counts.iter_mut().enumerate() {
-        *count = count.wrapping_add(u64::from(noted(change_at(alive, rise, drop, k)) == 1));
+        *count = count.wrapping_add(u64::from(
+            change_at(alive, rise, drop, k) == Some(Change::Rise),
+        ));
     }
 }
 
@@ -112,9 +103,7 @@ pub fn add_events(events: &mut [u8], alive: &[u8], rise: &[u8], drop: &[u8])
 pub fn clear(events: &mut [u8])
     ensures { events.new ≡ tab (length events.old) (λ _. 0) }
 {
-    for event in events.iter_mut() {
-        *event = 0;
-    }
+    events.fill(0);
 }
 
 // The end of a hop. A slow hop has told the events.

@@ -1,19 +1,12 @@
 -- What is made of the stores, by what was asked on the way. Assumes nothing.
-use Rattle.std.proofs.Common.{◌≡◌, refl, ap, ◌∙◌, List, ℕ, zero, suc, arith}
-use Rattle.std.proofs.lemmas.Grind.{common_steps}
+use Rattle.std.proofs.Common.{◌≡◌, refl, ap, ◌∙◌, List, ℕ, zero, suc}
 use lib.IntN.{ℤ}
 use lib.Ieee.{Float}
-use Rattle.refusals.specs.Numbers.{number_of}
-use Rattle.refusals.specs.declared.Refusal.{Refusal}
 use Rattle.model.specs.Calls.{bank_new_call}
 use Rattle.model.specs.GateCalls.{gate_new_call}
 use Rattle.watch_levels.specs.Levels.{signed_of, early_of}
 use Rattle.watch_words.specs.declared.Settings.{Settings}
 use Rattle.watch_stores.specs.Made.{Made, beside, after, made}
-
--- no refusal has the number of none
-pub refuses : (e : Refusal) → number_of e ≡ 0 → ⊥
-refuses e h = grind (arith, common_steps)
 
 module _ (s : Settings) (lengths : List ℕ) (n : ℕ) (bu : List ℕ) (bf : List Float) (gu : List ℕ) (gf : List Float) where
   -- a refusal of the bank is all

@@ -21,7 +21,8 @@ pub struct Stores<'a> {
     pub gate_f: &'a mut [f64],
 }
 
-// A fresh bank and a fresh gate.
+// A fresh bank and a fresh gate. The window lengths stand beside the settings, as any list: a gate refuses those that it can't have, more than eight
+// among them, and the settings hold no more than eight.
 pub fn make(
     s: Settings,
     lengths: &[u16],

@@ -1,4 +1,7 @@
-// Lines of text, and numbers as people read them.
+// Lines of text, and numbers as people read them. Functions put them, and no `Display` with `write!`: what that writes is promised only where it
+// answers Ok, and that it does is never promised, so each line's equation would hold on a condition; and a float's text is not promised at all.
+// The line is the first of their parameters, and they are no methods of it: floats, names and columns are put by functions of other crates,
+// which cannot add methods, and a line's parts read alike.
 #![tactic(auto)]
 
 pub mod buffer;
@@ -51,12 +54,14 @@ pub fn put_text(line: &mut Line, text: &[u8])
 pub fn put_spaces(line: &mut Line, count: usize)
     ensures { written line.new ≡ put_all (written line.old) (spaces count) }
 {
+    // So many turns, and no index: nothing is read by it.
     for _ in 0..count {
         put(line, b' ');
     }
 }
 
 // Text at the right of a column.
+#[tactic(auto, using(crate::proofs::Lines::aligned))]
 pub fn put_right(line: &mut Line, text: &[u8], width: usize)
     ensures { written line.new ≡ put_all (written line.old) (right width text.now) }
 {
@@ -65,12 +70,11 @@ pub fn put_right(line: &mut Line, text: &[u8], width: usize)
 }
 
 // A whole number at the right of a column.
+#[tactic(auto, unfolding(crate::specs::Text::whole))]
 pub fn put_number(line: &mut Line, x: u64, width: usize)
     ensures { written line.new ≡ put_all (written line.old) (right width (decimal x)) }
 {
-    let mut digits = [0u8; 20];
-    let k = io::decimal(x, &mut digits);
-    put_right(line, &digits[..k], width);
+    put_whole(line, false, x, width);
 }
 
 pub fn glyph(digit: u64) -> u8
@@ -89,10 +93,12 @@ fn put_sign(line: &mut Line, is_below: bool)
     }
 }
 
-// A whole number with its sign, at the right of a column.
+// A whole number with its sign, at the right of a column. The sign stands beside the number, here and below: hundredths of a float go up to 2^64, and no
+// signed number of 64 bits holds those.
 fn put_whole(line: &mut Line, is_below: bool, x: u64, width: usize)
     ensures { written line.new ≡ put_all (written line.old) (right width (whole is_below x)) }
 {
+    // `io::decimal` writes into what it is lent, with no heap.
     let mut digits = [0u8; 20];
     let k = io::decimal(x, &mut digits);
     let room = width
@@ -118,7 +124,8 @@ fn put_parts(line: &mut Line, is_below: bool, x: u64, decimals: &[u8], width: us
     put_text(line, decimals);
 }
 
-// Hundredths, with two decimals.
+// Hundredths, with two decimals. These and thousandths are two, over `put_parts`: a const parameter for how many decimals would bring powers of
+// ten and a loop over the digits in place of two arrays.
 #[tactic(auto, unfolding(crate::specs::Text::hundredths))]
 pub fn put_hundredths(line: &mut Line, is_below: bool, x: u64, width: usize)
     ensures { written line.new ≡ put_all (written line.old) (right width (hundredths is_below x)) }

@@ -3,6 +3,7 @@ use Rattle.std.specs.Prelude.{Bool, true, false, cond, List, [], ◌∷◌, ℕ,
 use Rattle.laws.specs.Texts.{ascii, same_bytes}
 use Rattle.watch_levels.specs.declared.Level.{Level}
 use Rattle.watch_levels.specs.Levels.{level, level_of}
+use Rattle.watch_lengths.specs.declared.Lengths.{Lengths}
 use Rattle.watch_lengths.specs.Lengths.{lengths_of}
 use Rattle.watch_numbers.specs.Numbers.{channel_of, span_of}
 use Rattle.watch_words.specs.declared.Word.{Word}
@@ -38,6 +39,10 @@ named w (o ∷ os) = cond (same_bytes w o.0) o.1 (named w os)
 unfoldable pub word_of : List ℕ → Word
 word_of w = cond (ltb (length w) 2) File (cond (eqb (get_or w 0 0) 45) (named w options) File)
 
+-- 40 ms, 200 ms and 1 s
+abbrev pub default_lengths : Lengths
+default_lengths = record { list = 15 ∷ 75 ∷ 375 ∷ 0 ∷ 0 ∷ 0 ∷ 0 ∷ 0 ∷ []; count = 3 }
+
 -- on at 9 dB, off at 6 dB, in eighths; no early level; three lengths
 abbrev pub defaults : Settings
 defaults =
@@ -45,7 +50,7 @@ defaults =
       on = level false 72;
       off = level false 48;
       early = None;
-      lengths = 3;
+      lengths = default_lengths;
       is_csv = false;
       has_reference = false;
       is_help = false;
@@ -56,14 +61,10 @@ defaults =
       worst = None;
       due = None;
       fault = None;
-      word = 0;
     }
 
-abbrev pub default_lengths : List ℕ
-default_lengths = 15 ∷ 75 ∷ 375 ∷ 0 ∷ 0 ∷ 0 ∷ 0 ∷ 0 ∷ []
-
 -- settings with other values: none is due any more
-abbrev pub valued : Settings → Level → Level → Option Level → ℕ → Settings
+abbrev pub valued : Settings → Level → Level → Option Level → Lengths → Settings
 valued s a b e n =
     record {
       on = a;
@@ -80,7 +81,6 @@ valued s a b e n =
       worst = s.worst;
       due = None;
       fault = s.fault;
-      word = s.word;
     }
 
 -- settings that ask for other things
@@ -101,12 +101,11 @@ asking s csv reference help log linear i =
       worst = s.worst;
       due = s.due;
       fault = s.fault;
-      word = s.word;
     }
 
--- settings of which word i says what is due or wrong
-abbrev pub noted : Settings → Option Value → Option Fault → ℕ → Settings
-noted s d f i =
+-- settings of which a word says what is due, or is wrong
+abbrev pub noted : Settings → Option (Value × ℕ) → Option (Fault × ℕ) → Settings
+noted s d f =
     record {
       on = s.on;
       off = s.off;
@@ -122,7 +121,6 @@ noted s d f i =
       worst = s.worst;
       due = d;
       fault = f;
-      word = i;
     }
 
 -- settings by which a channel's floors are explained, and the worst floor of so many slow hops is kept
@@ -143,7 +141,6 @@ telling s v w =
       worst = w;
       due = None;
       fault = s.fault;
-      word = s.word;
     }
 
 abbrev pub explaining : Settings → ℕ → Settings
@@ -154,11 +151,11 @@ spanning s w = telling s s.explained (Some w)
 
 -- word i has this fault
 abbrev pub faulty : Settings → Fault → ℕ → Settings
-faulty s f i = noted s s.due (Some f) i
+faulty s f i = noted s s.due (Some (f, i))
 
 -- word i is an option whose value is due
 abbrev pub awaiting : Settings → Value → ℕ → Settings
-awaiting s v i = noted s (Some v) s.fault i
+awaiting s v i = noted s (Some (v, i)) s.fault
 
 -- what is to be printed
 abbrev pub printing : Settings → Bool → Bool → Bool → Settings
@@ -179,7 +176,7 @@ linearly s = asking s s.is_csv s.has_reference s.is_help s.is_log true s.file
 abbrev pub levelled : Settings → Level → Level → Option Level → Settings
 levelled s a b e = valued s a b e s.lengths
 
-abbrev pub counting : Settings → ℕ → Settings
+abbrev pub counting : Settings → Lengths → Settings
 counting s n = valued s s.on s.off s.early n
 
 -- a second file is a fault
@@ -215,36 +212,35 @@ abbrev pub made : {A : Type 0} → (A → Settings) → Option A → Option Sett
 made f (Some x) = Some (f x)
 made f None = None
 
--- the lengths, and the settings with the value that a word is, if it is one: a level goes where it is due, an early level may be none, and a
--- list of lengths may leave something of itself
-unfoldable pub value_read : Value → List ℕ → Settings → List ℕ → List ℕ × Option Settings
-value_read V.On l s w = (l, made (λ x. levelled s x s.off s.early) (level_of w))
-value_read V.Off l s w = (l, made (λ x. levelled s s.on x s.early) (level_of w))
-value_read V.Early l s w =
-    (l, cond (same_bytes w (ascii "none")) (Some (levelled s s.on s.off None)) (made (λ x. levelled s s.on s.off (Some x)) (level_of w)))
-value_read V.Lengths l s w = let p = lengths_of w l in (p.0, made (counting s) p.1)
-value_read V.Explain l s w = (l, made (explaining s) (channel_of w))
-value_read V.Worst l s w = (l, made (spanning s) (span_of w))
+-- the settings with the value that a word is, if it is one: a level goes where it is due, an early level may be none
+unfoldable pub value_read : Value → Settings → List ℕ → Option Settings
+value_read V.On s w = made (λ x. levelled s x s.off s.early) (level_of w)
+value_read V.Off s w = made (λ x. levelled s s.on x s.early) (level_of w)
+value_read V.Early s w =
+    cond (same_bytes w (ascii "none")) (Some (levelled s s.on s.off None)) (made (λ x. levelled s s.on s.off (Some x)) (level_of w))
+value_read V.Lengths s w = made (counting s) (lengths_of w)
+value_read V.Explain s w = made (explaining s) (channel_of w)
+value_read V.Worst s w = made (spanning s) (span_of w)
 
 abbrev pub or_faulty : Settings → Fault → ℕ → Option Settings → Settings
 or_faulty s f i (Some t) = t
 or_faulty s f i None = faulty s f i
 
-unfoldable pub value_taken : Value → List ℕ → Settings → ℕ → List ℕ → List ℕ × Settings
-value_taken v l s i w = let r = value_read v l s w in (r.0, or_faulty s (bad v) i r.1)
+unfoldable pub value_taken : Value → Settings → ℕ → List ℕ → Settings
+value_taken v s i w = or_faulty s (bad v) i (value_read v s w)
 
--- the lengths and the settings after word i. After a fault nothing changes any more
-abbrev pub taken_when : Option Fault → Option Value → List ℕ → Settings → ℕ → List ℕ → List ℕ × Settings
-taken_when (Some f) d l s i w = (l, s)
-taken_when None None l s i w = (l, any_taken s i (word_of w))
-taken_when None (Some v) l s i w = value_taken v l s i w
+-- the settings after word i. After a fault nothing changes any more
+abbrev pub taken_when : Option (Fault × ℕ) → Option (Value × ℕ) → Settings → ℕ → List ℕ → Settings
+taken_when (Some f) d s i w = s
+taken_when None None s i w = any_taken s i (word_of w)
+taken_when None (Some d) s i w = value_taken d.0 s i w
 
-unfoldable pub word_taken : List ℕ × Settings → ℕ → List ℕ → List ℕ × Settings
-word_taken (l, s) i w = taken_when s.fault s.due l s i w
+unfoldable pub word_taken : Settings → ℕ → List ℕ → Settings
+word_taken s i w = taken_when s.fault s.due s i w
 
 -- after the last word an option may still lack its value
-abbrev pub ended_when : Option Fault → Option Value → Settings → Settings
-ended_when None (Some v) s = faulty s F.NoValue s.word
+abbrev pub ended_when : Option (Fault × ℕ) → Option (Value × ℕ) → Settings → Settings
+ended_when None (Some d) s = faulty s F.NoValue d.1
 ended_when None None s = s
 ended_when (Some f) d s = s
 

@@ -6,7 +6,7 @@ ghost use Rattle.laws.specs.Texts.{same_bytes};
 ghost use Rattle.watch_words.specs.Words.{named, options, word_of, defaults, default_lengths, faulty as words_faulty, bad};
 ghost use Rattle.watch_words.specs.Words.{with_file, any_taken, value_read, value_taken, word_taken, all_taken};
 
-use watch_lengths::lengths_of;
+use watch_lengths::{Lengths, lengths_of};
 use watch_levels::{Level, above, level_of};
 use watch_numbers::{channel_of, span_of};
 
@@ -53,7 +53,8 @@ fn is(word: &[u8], name: &[u8]) -> bool
     word == name
 }
 
-// One test after another, and no match on the bytes: that splits into a return for each byte that may differ, and no proof of it was found.
+// One test after another: of a `find` in a table of the names with their words the check finds no proof. A match on the bytes splits into a return
+// for each byte that may differ.
 #[tactic(auto, unfolding(crate::specs::Words::named))]
 fn option_of(word: &[u8]) -> Word
     ensures { result ≡ named word.now options }
@@ -113,8 +114,7 @@ pub struct Settings {
     pub on: Level,
     pub off: Level,
     pub early: Option<Level>,
-    // How many window lengths there are. They stand beside the settings: what a word that is no list of them leaves of them is told too.
-    pub lengths: usize,
+    pub lengths: Lengths,
     pub is_csv: bool,
     pub has_reference: bool,
     pub is_help: bool,
@@ -128,10 +128,20 @@ pub struct Settings {
     pub explained: Option<usize>,
     // Over how many slow hops the worst floor of late goes, where it is kept.
     pub worst: Option<usize>,
-    // What the next word must be, if not any; what is wrong, and the word that is waited for or at fault.
-    pub due: Option<Value>,
-    pub fault: Option<Fault>,
-    pub word: usize,
+    // What the next word must give, if it may not be any, and which word asks for it.
+    pub due: Option<(Value, usize)>,
+    // What is wrong, and which word. It stands among the settings, and is no Err: help that was asked for before it is still given.
+    pub fault: Option<(Fault, usize)>,
+}
+
+// 40 ms, 200 ms and 1 s: a dash, a letter, a word.
+pub fn default_lengths() -> Lengths
+    ensures { result ≡ default_lengths }
+{
+    Lengths {
+        list: [15, 75, 375, 0, 0, 0, 0, 0],
+        count: 3,
+    }
 }
 
 // Levels in eighths of a dB. A keyed channel is down for about half of the time, so over a second its mean is some 3 dB below its
@@ -144,7 +154,7 @@ pub fn default_settings() -> Settings
         on: above(72),
         off: above(48),
         early: None,
-        lengths: 3,
+        lengths: default_lengths(),
         is_csv: false,
         has_reference: false,
         is_help: false,
@@ -155,23 +165,14 @@ pub fn default_settings() -> Settings
         worst: None,
         due: None,
         fault: None,
-        word: 0,
     }
-}
-
-// 40 ms, 200 ms and 1 s: a dash, a letter, a word.
-pub fn default_lengths() -> [u16; 8]
-    ensures { result ≡ default_lengths }
-{
-    [15, 75, 375, 0, 0, 0, 0, 0]
 }
 
 pub fn faulty(s: Settings, fault: Fault, i: usize) -> Settings
     ensures { result ≡ words_faulty s fault i }
 {
     Settings {
-        fault: Some(fault),
-        word: i,
+        fault: Some((fault, i)),
         ..s
     }
 }
@@ -203,8 +204,7 @@ fn take_any(s: Settings, i: usize, word: &[u8]) -> Settings
             ..s
         },
         Word::Valued(value) => Settings {
-            due: Some(value),
-            word: i,
+            due: Some((value, i)),
             ..s
         },
         Word::Unknown => faulty(s, Fault::Unknown, i),
@@ -226,13 +226,8 @@ fn bad(value: Value) -> Fault
 
 // The settings with a value, if the word is one. An early level may be none.
 #[tactic(auto, unfolding(crate::specs::Words::value_read))]
-fn read_value(
-    mut s: Settings,
-    value: Value,
-    word: &[u8],
-    lengths: &mut [u16; 8],
-) -> Option<Settings>
-    ensures { (lengths.new, result) ≡ value_read value lengths.old s word.now }
+fn read_value(mut s: Settings, value: Value, word: &[u8]) -> Option<Settings>
+    ensures { result ≡ value_read value s word.now }
 {
     s.due = None;
     match value {
@@ -240,7 +235,7 @@ fn read_value(
         Value::Off => s.off = level_of(word)?,
         Value::Early if is(word, b"none") => s.early = None,
         Value::Early => s.early = Some(level_of(word)?),
-        Value::Lengths => s.lengths = lengths_of(word, lengths)?,
+        Value::Lengths => s.lengths = lengths_of(word)?,
         Value::Explain => s.explained = Some(channel_of(word)?),
         Value::Worst => s.worst = Some(span_of(word)?),
     }
@@ -248,10 +243,10 @@ fn read_value(
 }
 
 #[tactic(auto, unfolding(crate::specs::Words::value_taken))]
-fn take_value(s: Settings, i: usize, value: Value, word: &[u8], lengths: &mut [u16; 8]) -> Settings
-    ensures { (lengths.new, result) ≡ value_taken value lengths.old s i word.now }
+fn take_value(s: Settings, i: usize, value: Value, word: &[u8]) -> Settings
+    ensures { result ≡ value_taken value s i word.now }
 {
-    match read_value(s, value, word, lengths) {
+    match read_value(s, value, word) {
         Some(with_value) => with_value,
         None => faulty(s, bad(value), i),
     }
@@ -259,13 +254,13 @@ fn take_value(s: Settings, i: usize, value: Value, word: &[u8], lengths: &mut [u
 
 // The settings after word i. After a fault nothing changes any more.
 #[tactic(auto, unfolding(crate::specs::Words::word_taken))]
-pub fn take_word(s: Settings, i: usize, word: &[u8], lengths: &mut [u16; 8]) -> Settings
-    ensures { (lengths.new, result) ≡ word_taken (lengths.old, s) i word.now }
+pub fn take_word(s: Settings, i: usize, word: &[u8]) -> Settings
+    ensures { result ≡ word_taken s i word.now }
 {
     match (s.fault, s.due) {
         (Some(_), _) => s,
         (None, None) => take_any(s, i, word),
-        (None, Some(value)) => take_value(s, i, value, word, lengths),
+        (None, Some((value, _))) => take_value(s, i, value, word),
     }
 }
 
@@ -275,7 +270,7 @@ pub fn taken(s: Settings) -> Settings
     ensures { result ≡ all_taken s }
 {
     match (s.fault, s.due) {
-        (None, Some(_)) => faulty(s, Fault::NoValue, s.word),
+        (None, Some((_, asking))) => faulty(s, Fault::NoValue, asking),
         _ => s,
     }
 }

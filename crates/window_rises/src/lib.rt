@@ -12,8 +12,12 @@ ghost use Rattle.window_rises.specs.Marking.{marked, sums_rise};
 
 use cursors::Cursor;
 
-// The mark of a channel of which nothing was found to rise.
+// The mark of a channel of which nothing was found to rise. Marks are bytes, as C lends them.
 const UNMARKED: u8 = 0;
+
+// The next functions are one test taken apart, of channel k among the sums of all: the slices and k go down from each to the next, and k is within
+// them in each. A struct of them, with the bounds as its invariant, would be made anew for every channel of every length, and then be taken apart
+// at once: no plainer than three short clauses.
 
 // Channel j is another than k, and its recent sum is strictly larger.
 fn stronger(recent: &[f64], k: usize, j: usize) -> bool

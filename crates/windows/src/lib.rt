@@ -10,6 +10,9 @@ ghost use Rattle.windows.specs.Looks.{LookFits, looks_in, sample_at, stepped_loo
 
 use cursors::Cursor;
 
+// That a part holds its windows each function on it requires: it is written, and behind a struct of `&mut` a clause would read look.exit.part.now.
+// So it is with the cursor: `gate_cursors` reads one from a store of which it asks only its length, and a type of cursors that fit would ask more there.
+
 // Each channel takes its sample: previous gains (middle - old), recent gains (sample - middle), old becomes the sample.
 fn push_look(look: &mut [f64], c: Cursor, samples: &[f64])
     requires { LookFits look.old (length samples.now) c.m × CursorFits c }
@@ -53,6 +56,7 @@ fn rebase_look(look: &mut [f64], c: Cursor, n: usize)
     let m = c.m;
     let recent = 2 * m * n;
     let previous = recent + n;
+    // A turn reads the ring of channel k and writes both its sums, three parts of one store: k names each of them.
     for k in 0..n {
         let start = 2 * m * k;
         let middle = start + m;

@@ -6,7 +6,7 @@ use Rattle.model.specs.Stores.{base}
 use Rattle.model.specs.Refusals.{read_refusal}
 use Rattle.model.specs.Readings.{ring_start, ring_length}
 use Rattle.channel_readings.proofs.Places.{readable}
-use Rattle.channel_readings.proofs.Readings.{refuses}
+use Rattle.refusals.proofs.Answers.{refuses}
 use Rattle.answers.specs.Answers.{ring_answered}
 use Rattle.answers.proofs.ring_answer.Goals as goal
 

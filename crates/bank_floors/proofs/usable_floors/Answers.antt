@@ -12,8 +12,8 @@ channel-requires c =
     let s = fits c.args.bank.now c.args.bank_f.now c.from-n.result c.requires.ready c.from-n.ensures in
     (s.few, c.loop-k-test.true, s.long)
 
-pub usable_floor-requires-clause-chan_len : goal.usable_floor-requires-clause-chan_len
-usable_floor-requires-clause-chan_len c =
+pub usable_floor-requires-clause-sound : goal.usable_floor-requires-clause-sound
+usable_floor-requires-clause-sound c =
     let u = c.args.bank.now in
     let f = c.args.bank_f.now in
     lent u f c.from-n.result (fits u f c.from-n.result c.requires.ready c.from-n.ensures) c.loop-k.k c.loop-k-test.true c.channel.result.now c.channel.ensures

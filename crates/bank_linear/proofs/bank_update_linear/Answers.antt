@@ -2,9 +2,6 @@
 use Rattle.std.proofs.Common.{◌≡◌, sym, subst, ◌∙◌, List, arith}
 use Rattle.std.proofs.lemmas.Result.{err_from_is_err_and}
 use lib.Ieee.{Float}
-use Rattle.std.proofs.lemmas.Grind.{common_steps}
-use Rattle.refusals.specs.Numbers.{number_of}
-use Rattle.refusals.specs.declared.Refusal.{Refusal}
 use Rattle.model.specs.Bank.{hop, bank_step}
 use Rattle.model.specs.Stores.{bank_of}
 use Rattle.model.specs.Decibels.{decibels, linear_hop}
@@ -12,9 +9,7 @@ use Rattle.decibels.proofs.Hops.{in-front-long, in-the-array}
 use Rattle.bank_stages.specs.Steps.{Holds}
 use Rattle.bank_stages.proofs.Stages.{refused, accepted, asked}
 use Rattle.bank_linear.proofs.bank_update_linear.Goals as goal
-
-refuses : (e : Refusal) → number_of e ≡ 0 → ⊥
-refuses e h = grind (arith, common_steps)
+use Rattle.refusals.proofs.Answers.{refuses}
 
 pub returns-in_err-linear_refusal : goal.returns-in_err-linear_refusal
 returns-in_err-linear_refusal c =

@@ -1,6 +1,12 @@
-use Rattle.std.proofs.Common.{below_more, subst}
-use Rattle.bank_sixteens.specs.Rows.{Filled}
+use Rattle.std.proofs.Common.{ℕ, refl, rules, tests}
+use Rattle.std.specs.Bool.{⊤}
+use Rattle.std.proofs.lemmas.Iterator.{YieldsList-from_range, cases_from_all}
+use Rattle.bank_sixteens.specs.Rows.{chan_in, Filled}
+use Rattle.bank_sixteens.proofs.Rows.{all-yes}
 use Rattle.bank_sixteens.proofs.all_filled.Goals as goal
 
-pub loop-k-preserved : goal.loop-k-preserved
-loop-k-preserved c = below_more _ _ c.loop-k.invariant (subst (Filled c.args.filled) c.channel.ensures (c.is_filled.ensures c.if-not-is_filled.false))
+pub returns : goal.returns
+returns c =
+    let yes = λ (k : ℕ). Filled c.args.filled (chan_in c.args.eight.now k) in
+    all-yes 8 yes (λ k. ⊤) c.all.result
+    (cases_from_all _ _ c.all.result yes (λ k. ⊤) c.all.ensures.ran (YieldsList-from_range 0 8 8 (cc) refl) (λ x q k. search (rules, tests)) (λ x q k. cc))

@@ -13,8 +13,9 @@ pub loop-b-preserved : goal.loop-b-preserved
 loop-b-preserved c =
     let b = c.loop-b.b in
     let t = c.args.t.now in
-    let row = row_borne_out c.args.bank.now c.args.first c.args.second t in
+    let first = c.args.first.now in
+    let second = c.args.second.now in
     let r = c.loop-b.invariant.1 in (
-      ap₂ ◌&&◌ c.loop-b.invariant.0 (c.row_borne_out-all.ensures ∙ row_same c.args.bank.now c.args.first c.args.second t c.loop-b.t b (omega arith) r) ∙ sym (all-step b row),
+      ap₂ ◌&&◌ c.loop-b.invariant.0 (c.row_borne_out-all.ensures ∙ row_same first second t c.loop-b.t b (omega arith) r) ∙ sym (all-step b (row_borne_out first second t)),
       subst (ClearedTo (b + 1) t) (sym c.clear_row.ensures) (cleared_more b c.loop-b.t (omega arith) r.long t r),
     )

@@ -4,4 +4,4 @@ use Rattle.bank_sixteens.specs.Rows.{chan_at, Clear}
 use Rattle.bank_sixteens.proofs.sound_sixteens.Given as goal
 
 abbrev pub invariant-loop-sixteen : goal.invariant-loop-sixteen
-invariant-loop-sixteen l = ((j : ℕ) → j < 16 * l.sixteen → sound_channel (chan_of (chan_at l.from l.bank j)) ≡ true) × Clear l.t × Clear l.v
+invariant-loop-sixteen l = ((j : ℕ) → j < 16 * l.sixteen → sound_channel (chan_of (chan_at l.from l.bank j)) ≡ true) × Clear l.t.front × Clear l.t.behind

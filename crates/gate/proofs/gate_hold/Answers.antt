@@ -1,6 +1,7 @@
 use Rattle.std.proofs.Common.{sym, length}
 use Rattle.std.proofs.lemmas.Result.{err_from_is_err_and}
-use Rattle.gate.proofs.Calls.{refuses, hold-asked, hold-refused, held-marks}
+use Rattle.refusals.proofs.Answers.{refuses}
+use Rattle.gate.proofs.Calls.{hold-asked, hold-refused, held-marks}
 use Rattle.gate.proofs.gate_hold.Goals as goal
 
 pub returns-in_err-hold_refusal : goal.returns-in_err-hold_refusal

@@ -1,6 +1,7 @@
 use Rattle.std.proofs.Common.{sym, length}
 use Rattle.std.proofs.lemmas.Result.{err_from_is_err_and}
-use Rattle.gate.proofs.Calls.{refuses, update-asked, update-refused, updated}
+use Rattle.refusals.proofs.Answers.{refuses}
+use Rattle.gate.proofs.Calls.{update-asked, update-refused, updated}
 use Rattle.gate.proofs.gate_update.Goals as goal
 
 pub returns-in_err-gate_update_refusal : goal.returns-in_err-gate_update_refusal

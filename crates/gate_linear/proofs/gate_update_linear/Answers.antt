@@ -12,7 +12,8 @@ use Rattle.model.proofs.GoodGates.{n-of}
 use Rattle.model.proofs.Decibels.{decibels-long}
 use Rattle.decibels.proofs.Hops.{in-front-long, in-the-array}
 use Rattle.gate.specs.Hops.{Takes, Taken}
-use Rattle.gate.proofs.Calls.{refuses, update-asked, update-refused, updated}
+use Rattle.refusals.proofs.Answers.{refuses}
+use Rattle.gate.proofs.Calls.{update-asked, update-refused, updated}
 use Rattle.gate_linear.proofs.gate_update_linear.Goals as goal
 
 -- as many dB as powers are measured

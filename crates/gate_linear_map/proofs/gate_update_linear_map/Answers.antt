@@ -13,7 +13,7 @@ use Rattle.model.proofs.GoodGates.{n-of}
 use Rattle.model.proofs.Decibels.{decibels-long}
 use Rattle.decibels.proofs.Hops.{in-front-long, in-the-array}
 use Rattle.gate.specs.Hops.{Taken}
-use Rattle.gate.proofs.Calls.{refuses}
+use Rattle.refusals.proofs.Answers.{refuses}
 use Rattle.gate_map.proofs.Carried.{Beside, update-asked, update-refused, updated}
 use Rattle.gate_linear_map.proofs.gate_update_linear_map.Goals as goal
 
@@ -74,14 +74,7 @@ pub set_marks-requires : goal.set_marks-requires
 set_marks-requires c =
     let a = c.args in
     let t = asked a.bank.now a.bank_f.now a.gate.now a.gate_f.now a.map.now a.power.now a.rise.now a.drop.now c.in_ok-update_map_refusal.ensures in
-    let g = t.0.pair.gate.good in
-    let n = n-of a.gate.now a.gate_f.now in (
-      omega (arith, t.2, g.low, n),
-      omega (arith, t.2, g.high, n),
-      t.0.long ∙ ap map_long (sym t.2),
-      c.take_hop.auto.rise ∙ t.3 ∙ sym t.2,
-      c.take_hop.auto.drop ∙ t.4 ∙ sym t.2,
-    )
+    let e = c.take_hop.auto.rise ∙ t.3 in (t.0.long ∙ ap map_long (sym e), c.take_hop.auto.drop ∙ t.4 ∙ sym e)
 
 pub returns : goal.returns
 returns c =
@@ -89,6 +82,6 @@ returns c =
     let t = asked a.bank.now a.bank_f.now a.gate.now a.gate_f.now a.map.now a.power.now a.rise.now a.drop.now c.in_ok-update_map_refusal.ensures in
     let k =
     with-db (gate_of a.gate.now a.gate_f.now) (bank_of a.bank.now a.bank_f.now) a.power.now _ _ _ _ _ _ c.hop_db-db.ensures c.take_hop.ensures in
-    updated a.bank.now a.bank_f.now a.gate.now a.gate_f.now a.map.now (linear_gate_hop a.power.now) a.rise.now a.drop.now (length a.power.now) _ _ _ _ _
-    (sym (measured 0 a.bank.now a.bank_f.now a.gate.now a.gate_f.now a.map.now a.power.now a.rise.now a.drop.now c.in_ok-update_map_refusal.ensures)) t.2
+    updated a.bank.now a.bank_f.now a.gate.now a.gate_f.now a.map.now (linear_gate_hop a.power.now) a.rise.now a.drop.now (length c.take_hop.new.rise) _ _ _ _ _
+    (sym (measured 0 a.bank.now a.bank_f.now a.gate.now a.gate_f.now a.map.now a.power.now a.rise.now a.drop.now c.in_ok-update_map_refusal.ensures)) (c.take_hop.auto.rise ∙ t.3)
     k.holds k.marked c.set_marks.ensures

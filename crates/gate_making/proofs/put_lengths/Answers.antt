@@ -1,7 +1,7 @@
-use Rattle.std.proofs.Common.{◌∙◌, ap, ℕ, List, length, get_or, arith}
+use Rattle.std.proofs.Common.{◌∙◌, ap, ℕ, List, get_or, arith}
 use Rattle.model.specs.Gate.{distinct}
 use Rattle.gate_lengths.proofs.Distinct.{few, first_of, first-le}
-use Rattle.gate_making.proofs.Makes.{fresh-long, fresh-count, put-turn}
+use Rattle.gate_making.proofs.Makes.{fresh-count, put-turn}
 use Rattle.gate_making.proofs.put_lengths.Goals as goal
 
 pub loop-i-init : goal.loop-i-init
@@ -13,7 +13,6 @@ put_length-requires c =
     let ms = c.args.lengths.now in
     let i = c.loop-i.i in
     let e = c.loop-i.invariant in (
-      ap length e ∙ fresh-long _ _ _ _ (first_of ms i) (omega (arith, few ms c.requires.1, first-le ms i (omega arith))),
       omega (arith, ap (λ (w : List ℕ). get_or w 5 0) e ∙ fresh-count _ _ _ _ (first_of ms i), few ms c.requires.1, first-le ms i (omega arith)),
       omega arith,
     )

@@ -1,8 +1,7 @@
-use Rattle.std.proofs.Common.{◌∙◌, sym, ap, refl, ℕ, length, arith}
+use Rattle.std.proofs.Common.{◌∙◌, sym, ap, ℕ, length}
 use Rattle.std.proofs.lemmas.Result.{err_from_is_err_and}
 use Rattle.model.specs.Map.{map_long, marks_set}
-use Rattle.model.proofs.GoodGates.{n-of}
-use Rattle.gate.proofs.Calls.{refuses}
+use Rattle.refusals.proofs.Answers.{refuses}
 use Rattle.gate_map.proofs.Carried.{hold-asked, hold-refused, held}
 use Rattle.gate_map.proofs.gate_hold_map.Goals as goal
 
@@ -23,13 +22,8 @@ pub set_marks-requires : goal.set_marks-requires
 set_marks-requires c =
     let a = c.args in
     let t = hold-asked a.bank.now a.bank_f.now a.gate.now a.gate_f.now a.map.now (length a.rise.now) (length a.drop.now) (sym c.in_ok-hold_map_refusal.ensures) in
-    let g = t.0.pair.gate.good in
-    let n = n-of a.gate.now a.gate_f.now in
     let e = c.take_hold.auto.rise ∙ t.1 in (
-      omega (arith, e, g.low, n),
-      omega (arith, e, g.high, n),
       t.0.long ∙ ap map_long (sym e),
-      refl,
       c.take_hold.auto.drop ∙ t.2 ∙ sym e,
     )
 

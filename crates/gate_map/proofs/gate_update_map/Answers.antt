@@ -1,8 +1,7 @@
-use Rattle.std.proofs.Common.{◌∙◌, sym, ap, length, arith}
+use Rattle.std.proofs.Common.{◌∙◌, sym, ap, length}
 use Rattle.std.proofs.lemmas.Result.{err_from_is_err_and}
 use Rattle.model.specs.Map.{map_long}
-use Rattle.model.proofs.GoodGates.{n-of}
-use Rattle.gate.proofs.Calls.{refuses}
+use Rattle.refusals.proofs.Answers.{refuses}
 use Rattle.gate_map.proofs.Carried.{update-asked, update-refused, updated}
 use Rattle.gate_map.proofs.gate_update_map.Goals as goal
 
@@ -23,18 +22,11 @@ pub set_marks-requires : goal.set_marks-requires
 set_marks-requires c =
     let a = c.args in
     let t = update-asked a.bank.now a.bank_f.now a.gate.now a.gate_f.now a.map.now (length a.power_db.now) (length a.power.now) (length a.rise.now) (length a.drop.now) (sym c.in_ok-update_map_refusal.ensures) in
-    let g = t.0.pair.gate.good in
-    let n = n-of a.gate.now a.gate_f.now in (
-      omega (arith, t.2, g.low, n),
-      omega (arith, t.2, g.high, n),
-      t.0.long ∙ ap map_long (sym t.2),
-      c.take_hop.auto.rise ∙ t.3 ∙ sym t.2,
-      c.take_hop.auto.drop ∙ t.4 ∙ sym t.2,
-    )
+    let e = c.take_hop.auto.rise ∙ t.3 in (t.0.long ∙ ap map_long (sym e), c.take_hop.auto.drop ∙ t.4 ∙ sym e)
 
 pub returns : goal.returns
 returns c =
     let a = c.args in
     let t = update-asked a.bank.now a.bank_f.now a.gate.now a.gate_f.now a.map.now (length a.power_db.now) (length a.power.now) (length a.rise.now) (length a.drop.now) (sym c.in_ok-update_map_refusal.ensures) in
-    updated a.bank.now a.bank_f.now a.gate.now a.gate_f.now a.map.now (record { db = a.power_db.now; power = a.power.now }) a.rise.now a.drop.now (length a.power.now) _ _ _ _ _
-    (sym c.in_ok-update_map_refusal.ensures) t.2 c.take_hop.ensures.holds c.take_hop.ensures.marked c.set_marks.ensures
+    updated a.bank.now a.bank_f.now a.gate.now a.gate_f.now a.map.now (record { db = a.power_db.now; power = a.power.now }) a.rise.now a.drop.now (length c.take_hop.new.rise) _ _ _ _ _
+    (sym c.in_ok-update_map_refusal.ensures) (c.take_hop.auto.rise ∙ t.3) c.take_hop.ensures.holds c.take_hop.ensures.marked c.set_marks.ensures

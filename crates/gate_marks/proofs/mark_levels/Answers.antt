@@ -7,14 +7,15 @@ use Rattle.laws.proofs.Fills.{turns}
 use Rattle.model.specs.Stores.{bank_of}
 use Rattle.model.specs.Gate.{early_rise, is_drop_at}
 use Rattle.model.specs.GateStores.{gate_of}
-use Rattle.channel_readings.proofs.Places.{from-ready}
+use Rattle.channel_readings.proofs.Places.{from_ready}
 use Rattle.gate_marks.proofs.Marks.{early-is, drop-is}
 use Rattle.gate_marks.proofs.mark_levels.Invariants.{rise_of, drop_of}
 use Rattle.gate_marks.proofs.mark_levels.Goals as goal
 
-pub effective_at-effective-requires : goal.effective_at-effective-requires
-effective_at-effective-requires c =
-    from-ready c.args.bank.now c.args.bank_f.now c.loop-k.k c.requires.0.bank (omega (arith, c.requires.0.same))
+pub invariant_of-effective : goal.invariant_of-effective
+invariant_of-effective c = record {
+  readable = from_ready c.args.bank.now c.args.bank_f.now c.loop-k.k c.requires.0.bank (omega (arith, c.requires.0.same));
+}
 
 pub loop-k-preserved : goal.loop-k-preserved
 loop-k-preserved c =
@@ -24,8 +25,8 @@ loop-k-preserved c =
     let gf = c.args.gate_f.now in
     let k = c.loop-k.k in
     let b = bank_of bu bf in
-    let x = c.effective_at-effective.result in
-    let xs = c.effective_at-effective.ensures in
+    let x = c.effective-effective.result in
+    let xs = c.effective-effective.ensures in
     let below : k < get_or gu 0 0 = omega arith in
     let rises : c.early_rise.result ≡ early_rise (gate_of gu gf) b k =
     c.early_rise.ensures ∙ early-is gu gf b k c.requires.0.gate below x xs in

@@ -1,25 +1,14 @@
--- `gate_sound::triples_sound`: one triple more is sound, or it is not.
-use Rattle.std.proofs.Common.{refl, sym, ◌∙◌, arith}
-use Rattle.laws.specs.Tests.{all_below}
-use Rattle.laws.proofs.Tests.{all_more, all-fails, all_done}
+use Rattle.std.proofs.Common.{◌∙◌, refl, arith, rules, tests}
+use Rattle.std.proofs.lemmas.Iterator.{YieldsList-from_range}
+use Rattle.std.proofs.lemmas.Iterator.Search.{all_from_yields_List}
 use Rattle.gate_sound.specs.Checks.{sound_length}
+use Rattle.gate_sound.proofs.Ranges.{all_in_range}
 use Rattle.gate_sound.proofs.Sizes.{triples-are}
 use Rattle.gate_sound.proofs.triples_sound.Goals as goal
-
-pub loop-j-init : goal.loop-j-init
-unfolding all_below
-loop-j-init c = refl
-
-pub returns-then-not-length_sound : goal.returns-then-not-length_sound
-returns-then-not-length_sound c =
-    let u = c.args.gate.now in
-    sym (all-fails (sound_length u) 8 c.loop-j.j (omega arith) (sym c.length_sound.ensures ∙ c.if-not-length_sound.true)) ∙ triples-are u
-
-pub loop-j-preserved : goal.loop-j-preserved
-loop-j-preserved c =
-    all_more (sound_length c.args.gate.now) c.loop-j.j c.loop-j.invariant (sym c.length_sound.ensures ∙ c.if-not-length_sound.false)
 
 pub returns : goal.returns
 returns c =
     let u = c.args.gate.now in
-    all_done (sound_length u) c.loop-j.j 8 (omega arith) c.loop-j.invariant ∙ triples-are u
+    all_from_yields_List (sound_length u) _ _ c.all.result c.all.ensures.ran (YieldsList-from_range 0 8 8 refl (omega arith)) (λ x b q k. search (rules, tests))
+    ∙ all_in_range (sound_length u) 8
+    ∙ triples-are u

@@ -51,7 +51,7 @@ returns-then-not-goes_on c =
     let more =
     c.hop_len-more.ensures
     ∙ ap (λ (n : ℕ). width n + 12 * tally n (λ k. changed n m.db m.power (n + k))) (zeros-are (low_two a.first.now 0) a.d.now c.requires.lent.d_zero) in
-    judging-stops a.first.now a.second.now f g c.requires.starts_a c.requires.starts_b o.x o.y o.len o.hops o.d o.p o.e o.q o.db o.power o.invariant.1
+    judging-stops a.first.now a.second.now f g c.requires.starts_a c.requires.starts_b o.at.first o.at.second o.len o.hops o.d o.p o.e o.q o.db o.power o.invariant.1
     (sym c.is_before.ensures ∙ c.loop-d-test.true) c.turn-next.result.first c.turn-next.result.second m.d m.p m.e m.q m.db m.power u.first_value u.d_after
     u.e_after u.db_after u.power_after c.hop_len-more.result more a.room o.invariant.0 (sym c.goes_on.ensures ∙ c.if-not-goes_on.true)
 
@@ -64,12 +64,12 @@ loop-d-preserved c =
     let f : Below 256 a.first.now = λ i h. omega (arith, c.type_inv.first i) in
     let g : Below 256 a.second.now = λ i h. omega (arith, c.type_inv.second i) in
     let goes = sym c.goes_on.ensures ∙ c.if-not-goes_on.false in
-    let moved = goes-tells o.x c.turn-next.result.first o.y c.turn-next.result.second c.hop_len-more.result (a.room - o.len) goes in
+    let moved = goes-tells o.at.first c.turn-next.result.first o.at.second c.turn-next.result.second c.hop_len-more.result (a.room - o.len) goes in
     let more =
     c.hop_len-more.ensures
     ∙ ap (λ (n : ℕ). width n + 12 * tally n (λ k. changed n m.db m.power (n + k))) (zeros-are (low_two a.first.now 0) a.d.now c.requires.lent.d_zero) in (
       omega (arith, moved.1.1, o.invariant.0),
-      judging-next a.first.now a.second.now f g c.requires.starts_a c.requires.starts_b o.x o.y o.len o.hops o.d o.p o.e o.q o.db o.power o.invariant.1
+      judging-next a.first.now a.second.now f g c.requires.starts_a c.requires.starts_b o.at.first o.at.second o.len o.hops o.d o.p o.e o.q o.db o.power o.invariant.1
           (sym c.is_before.ensures ∙ c.loop-d-test.true) c.turn-next.result.first c.turn-next.result.second m.d m.p m.e m.q m.db m.power u.first_value
           u.d_after u.e_after u.db_after u.power_after c.hop_len-more.result more (a.room - o.len) goes,
     )
@@ -82,6 +82,6 @@ returns c =
     let n : ℕ = low_two a.first.now 0 in
     let f : Below 256 a.first.now = λ i h. omega (arith, c.type_inv.first i) in
     let g : Below 256 a.second.now = λ i h. omega (arith, c.type_inv.second i) in
-    judging-ends a.first.now a.second.now f g c.requires.starts_a c.requires.starts_b o.x o.y o.len o.hops o.d o.p o.e o.q o.db o.power o.invariant.1
+    judging-ends a.first.now a.second.now f g c.requires.starts_a c.requires.starts_b o.at.first o.at.second o.len o.hops o.d o.p o.e o.q o.db o.power o.invariant.1
     a.room o.invariant.0 (o.auto.d ∙ zeros-are n a.d.now s.d_zero) (o.auto.p ∙ zeros-are n a.p.now s.p_zero) (o.auto.e ∙ zeros-are n a.e.now s.e_zero)
     (o.auto.q ∙ zeros-are n a.q.now s.q_zero) (sym c.is_before.ensures ∙ c.loop-d-test.false) c.fit_at.result c.fit_at.ensures

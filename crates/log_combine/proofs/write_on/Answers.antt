@@ -22,8 +22,8 @@ put_low-requires c =
     let g : Below 256 a.second.now = λ i h. omega (arith, c.type_inv.second i) in
     omega (arith, combined-parts a.first.now a.second.now a.hops f g c.requires.ready.pair, c.requires.second_in_bounds)
 
-pub loop-j-init : goal.loop-j-init
-loop-j-init c =
+pub loop-init : goal.loop-init
+loop-init c =
     let a = c.args in
     let f : Below 256 a.first.now = λ i h. omega (arith, c.type_inv.first i) in
     let g : Below 256 a.second.now = λ i h. omega (arith, c.type_inv.second i) in (
@@ -31,18 +31,18 @@ loop-j-init c =
       walk_begins a.first.now a.second.now a.hops f g c.requires.ready.pair a.d.now a.p.now a.e.now a.q.now a.db.now a.power.now c.requires.ready,
     )
 
-pub turn-next-requires-clause-db_len : goal.turn-next-requires-clause-db_len
-turn-next-requires-clause-db_len c =
+pub turn-at-requires-clause-db_len : goal.turn-at-requires-clause-db_len
+turn-at-requires-clause-db_len c =
     let a = c.args in
-    let o = c.loop-j in
+    let o = c.loop in
     let f : Below 256 a.first.now = λ i h. omega (arith, c.type_inv.first i) in
     let g : Below 256 a.second.now = λ i h. omega (arith, c.type_inv.second i) in
-    (walk-lends a.first.now a.second.now a.hops f g c.requires.ready.pair o.x o.y o.len o.j o.d o.p o.e o.q o.db o.power o.invariant.1).1
+    (walk-lends a.first.now a.second.now a.hops f g c.requires.ready.pair o.at.first o.at.second o.len o.counter o.d o.p o.e o.q o.db o.power o.invariant.1).1
 
 pub put_hop-len-requires-clause-hop : goal.put_hop-len-requires-clause-hop
 put_hop-len-requires-clause-hop c =
     let a = c.args in
-    let v = c.loop-j.invariant.1 in
+    let v = c.loop.invariant.1 in
     let f : Below 256 a.first.now = λ i h. omega (arith, c.type_inv.first i) in
     let g : Below 256 a.second.now = λ i h. omega (arith, c.type_inv.second i) in
     let n = zeros-are (low_two a.first.now 0) a.d.now c.requires.ready.lent.d_zero in
@@ -52,33 +52,33 @@ put_hop-len-requires-clause-hop c =
 pub put_hop-len-requires-clause-room : goal.put_hop-len-requires-clause-room
 put_hop-len-requires-clause-room c =
     let a = c.args in
-    let o = c.loop-j in
-    let m = c.turn-next.new in
-    let u = c.turn-next.ensures in
+    let o = c.loop in
+    let m = c.turn-at.new in
+    let u = c.turn-at.ensures in
     let n : ℕ = low_two a.first.now 0 in
     let f : Below 256 a.first.now = λ i h. omega (arith, c.type_inv.first i) in
     let g : Below 256 a.second.now = λ i h. omega (arith, c.type_inv.second i) in
     let pair = c.requires.ready.pair in
     let shows =
-    walk-shows a.first.now a.second.now a.hops f g pair o.x o.y o.len o.j o.d o.p o.e o.q o.db o.power o.invariant.1 c.loop-j-test.true
-    c.turn-next.result.first c.turn-next.result.second m.d m.p m.e m.q m.db m.power u.first_value u.d_after u.e_after u.db_after u.power_after in
+    walk-shows a.first.now a.second.now a.hops f g pair o.at.first o.at.second o.len o.counter o.d o.p o.e o.q o.db o.power o.invariant.1 c.loop-test.true
+    c.turn-at.result.first c.turn-at.result.second m.d m.p m.e m.q m.db m.power u.first_value u.d_after u.e_after u.db_after u.power_after in
     let room : o.len + (width n + 12 * tally n (λ k. changed n m.db m.power (n + k))) ≤ length o.log =
     omega (
       arith,
-      combined-within a.first.now a.second.now a.hops f g pair o.j c.loop-j-test.true,
-      shown-tally n _ _ o.j m.db m.power shows,
+      combined-within a.first.now a.second.now a.hops f g pair o.counter c.loop-test.true,
+      shown-tally n _ _ o.counter m.db m.power shows,
       o.invariant.1.len_is,
       c.requires.second_in_bounds,
     ) in
     subst (λ (w : ℕ). o.len + (width w + 12 * tally w (λ k. changed w m.db m.power (w + k))) ≤ length o.log)
     (sym (zeros-are n a.d.now c.requires.ready.lent.d_zero)) room
 
-pub loop-j-preserved : goal.loop-j-preserved
-loop-j-preserved c =
+pub loop-preserved : goal.loop-preserved
+loop-preserved c =
     let a = c.args in
-    let o = c.loop-j in
-    let m = c.turn-next.new in
-    let u = c.turn-next.ensures in
+    let o = c.loop in
+    let m = c.turn-at.new in
+    let u = c.turn-at.ensures in
     let n : ℕ = low_two a.first.now 0 in
     let S : List ℕ = db_chosen a.first.now a.second.now in
     let T : List ℕ = power_chosen a.first.now a.second.now in
@@ -88,18 +88,18 @@ loop-j-preserved c =
     let pair = c.requires.ready.pair in
     let wide = zeros-are n a.d.now c.requires.ready.lent.d_zero in
     let shows =
-    walk-shows a.first.now a.second.now a.hops f g pair o.x o.y o.len o.j o.d o.p o.e o.q o.db o.power o.invariant.1 c.loop-j-test.true
-    c.turn-next.result.first c.turn-next.result.second m.d m.p m.e m.q m.db m.power u.first_value u.d_after u.e_after u.db_after u.power_after in
-    let fits = combined-within a.first.now a.second.now a.hops f g pair o.j c.loop-j-test.true in (
+    walk-shows a.first.now a.second.now a.hops f g pair o.at.first o.at.second o.len o.counter o.d o.p o.e o.q o.db o.power o.invariant.1 c.loop-test.true
+    c.turn-at.result.first c.turn-at.result.second m.d m.p m.e m.q m.db m.power u.first_value u.d_after u.e_after u.db_after u.power_after in
+    let fits = combined-within a.first.now a.second.now a.hops f g pair o.counter c.loop-test.true in (
       c.put_hop-len.ensures.log_after
           ∙ ap (λ (r : List ℕ). put o.len r o.log)
           (ap (λ (w : ℕ). hop_of w (λ k. changed w m.db m.power (w + k)) (λ k. get_or m.db (w + k) 0) (λ k. get_or m.power (w + k) 0)) wide
-          ∙ shown-hop n S T o.j m.db m.power shows)
-          ∙ put_next 2 o.len (length (joined (tab o.j H))) (joined (tab o.j H)) (H o.j) c.put_low.new.log o.log refl o.invariant.1.len_is o.invariant.0
-          (omega (arith, fits, length_at n S T o.j, c.requires.second_in_bounds))
-          ∙ ap (λ (r : List ℕ). put 2 r c.put_low.new.log) (sym (joined-next o.j H)),
-      walk-next a.first.now a.second.now a.hops f g pair o.x o.y o.len o.j o.d o.p o.e o.q o.db o.power o.invariant.1 c.loop-j-test.true
-          c.turn-next.result.first c.turn-next.result.second m.d m.p m.e m.q m.db m.power u.first_value u.d_after u.e_after u.db_after u.power_after
+          ∙ shown-hop n S T o.counter m.db m.power shows)
+          ∙ put_next 2 o.len (length (joined (tab o.counter H))) (joined (tab o.counter H)) (H o.counter) c.put_low.new.log o.log refl o.invariant.1.len_is o.invariant.0
+          (omega (arith, fits, length_at n S T o.counter, c.requires.second_in_bounds))
+          ∙ ap (λ (r : List ℕ). put 2 r c.put_low.new.log) (sym (joined-next o.counter H)),
+      walk-next a.first.now a.second.now a.hops f g pair o.at.first o.at.second o.len o.counter o.d o.p o.e o.q o.db o.power o.invariant.1 c.loop-test.true
+          c.turn-at.result.first c.turn-at.result.second m.d m.p m.e m.q m.db m.power u.first_value u.d_after u.e_after u.db_after u.power_after
           c.put_hop-len.result
           (c.put_hop-len.ensures.value ∙ ap (λ (w : ℕ). o.len + (width w + 12 * tally w (λ k. changed w m.db m.power (w + k)))) wide),
     )
@@ -107,11 +107,11 @@ loop-j-preserved c =
 pub returns-clause-value : goal.returns-clause-value
 returns-clause-value c =
     let a = c.args in
-    let o = c.loop-j in
+    let o = c.loop in
     let H : ℕ → List ℕ = chosen_hop a.first.now a.second.now in
     let f : Below 256 a.first.now = λ i h. omega (arith, c.type_inv.first i) in
     let g : Below 256 a.second.now = λ i h. omega (arith, c.type_inv.second i) in
-    let e : o.j ≡ a.hops = omega arith in
+    let e : o.counter ≡ a.hops = omega arith in
     o.invariant.1.len_is ∙ ap (λ (i : ℕ). 2 + length (joined (tab i H))) e
     ∙ sym (combined-parts a.first.now a.second.now a.hops f g c.requires.ready.pair)
 
@@ -119,14 +119,14 @@ pub returns-clause-log_after : goal.returns-clause-log_after
 unfolding combined_log log_of
 returns-clause-log_after c =
     let a = c.args in
-    let o = c.loop-j in
+    let o = c.loop in
     let n : ℕ = length a.d.now in
     let H : ℕ → List ℕ = chosen_hop a.first.now a.second.now in
     let f : Below 256 a.first.now = λ i h. omega (arith, c.type_inv.first i) in
     let g : Below 256 a.second.now = λ i h. omega (arith, c.type_inv.second i) in
     let all = combined-parts a.first.now a.second.now a.hops f g c.requires.ready.pair in
     let hs = hops-chosen a.first.now a.second.now a.hops f g c.requires.ready.pair in
-    let e : o.j ≡ a.hops = omega arith in
+    let e : o.counter ≡ a.hops = omega arith in
     o.invariant.0 ∙ ap (λ (i : ℕ). put 2 (joined (tab i H)) c.put_low.new.log) e
     ∙ put_next 0 2 2 (low_bytes 2 n) (joined (tab a.hops H)) a.log.now c.put_low.new.log (length-low 2 n) refl c.put_low.ensures
     (omega (arith, all, c.requires.second_in_bounds))

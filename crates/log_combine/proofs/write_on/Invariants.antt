@@ -5,7 +5,7 @@ use Rattle.log_hops.specs.Put.{put}
 use Rattle.log_combine.proofs.InStep.{Walk, chosen_hop}
 use Rattle.log_combine.proofs.write_on.Given as goal
 
-abbrev pub invariant-loop-j : goal.invariant-loop-j
-invariant-loop-j l =
-    (l.log ≡ put 2 (joined (tab l.j (chosen_hop l.first l.second))) l.initial.log)
-    × Walk l.first l.second l.hops l.x l.y l.len l.j l.d l.p l.e l.q l.db l.power
+abbrev pub invariant-loop : goal.invariant-loop
+invariant-loop l =
+    (l.log ≡ put 2 (joined (tab l.counter (chosen_hop l.first l.second))) l.initial.log)
+    × Walk l.first l.second l.hops l.at.first l.at.second l.len l.counter l.d l.p l.e l.q l.db l.power

@@ -58,7 +58,7 @@ loop-k-preserved c =
                   (turns a.db.now f k l.db _ l.invariant.1.0 (omega arith) (db-set a.log.now a.at n k a.db.now l.pair _ here h w.eight_within.ensures)),
               subst (Filled a.power.now g (k + 1)) (sym w.power-is)
                   (turns a.power.now g k l.power _ l.invariant.1.1 (omega arith)
-                  (power-set a.log.now a.at n k a.power.now l.pair _ here h w.four_within.ensures.0)),
+                  (power-set a.log.now a.at n k a.power.now l.pair _ here h w.four_within.ensures)),
             ),
           )
       | else-is_set w ↦

@@ -1,8 +1,8 @@
 -- `map_marks::set_flags`: one byte of flags more.
-use Rattle.std.proofs.Common.{◌≡◌, ◌≤◌, ◌+◌, ◌*◌, ℕ, length, get_or, min, ap, ◌∙◌, arith}
+use Rattle.std.proofs.Common.{◌≡◌, ◌≤◌, ◌+◌, ◌-◌, ◌*◌, ℕ, length, get_or, min, ap, ◌∙◌, arith}
 use lib.Bits.{bit_or}
 use Rattle.laws.proofs.Fills.{begins, unwritten, turns, done}
-use Rattle.map_marks.proofs.Marks.{byte-set, flags-set}
+use Rattle.map_marks.proofs.Marks.{of_part, byte-set, flags-set}
 use Rattle.map_marks.proofs.set_flags.Invariants.{byte_of}
 use Rattle.map_marks.proofs.set_flags.Goals as goal
 
@@ -21,7 +21,7 @@ loop-i-preserved c =
       set =
           turns f (byte_of f m) i c.loop-i.flags (bit_or (get_or c.loop-i.flags i 0) b) c.loop-i.invariant.set (omega arith)
           (ap (λ (x : ℕ). bit_or x b) (unwritten f (byte_of f m) i c.loop-i.flags 0 0 c.loop-i.invariant.set (omega arith))
-          ∙ byte-set f m i c.min-to.result b to on c.gathered.ensures (c.loop-i.invariant.bytes i));
+          ∙ byte-set f m i c.min-to.result b to on (c.gathered.ensures ∙ of_part m (8 * i) (c.min-to.result - 8 * i) (omega arith)) (c.loop-i.invariant.bytes i));
       bytes = c.loop-i.invariant.bytes;
     }
 

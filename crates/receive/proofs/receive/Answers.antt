@@ -2,7 +2,7 @@ use Rattle.std.proofs.Common.{◌∙◌, sym}
 use Rattle.std.proofs.lemmas.Result.{err_from_is_err_and}
 use Rattle.run_model.specs.Runs.{Run}
 use Rattle.run_refusals.proofs.Refuses.{refusal-by}
-use Rattle.gate.proofs.Calls.{refuses}
+use Rattle.refusals.proofs.Answers.{refuses}
 use Rattle.receive.proofs.Going.{refused}
 use Rattle.receive.proofs.receive.Goals as goal
 

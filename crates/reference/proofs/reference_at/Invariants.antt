@@ -7,4 +7,4 @@ use Rattle.reference.proofs.reference_at.Given as goal
 
 -- the least of the powers at the places so far
 abbrev pub invariant-loop-place : goal.invariant-loop-place
-invariant-loop-place l = l.least ≡ foldl (lesser l.n l.bank_f) (inf false) (take l.place-index l.place-items)
+invariant-loop-place l = l.least ≡ foldl (lesser l.n l.channel.bank_f.now) (inf false) (take l.place-index l.place-items)

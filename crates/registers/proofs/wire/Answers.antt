@@ -1,27 +1,27 @@
-use Rattle.std.proofs.Common.{◌≡◌, ◌∙◌, refl, ap, ℕ, ◌+◌, get_or, eqb, not, arith}
+use Rattle.std.proofs.Common.{◌≡◌, ◌∙◌, List, refl, ap, ℕ, ◌+◌, Bool, get_or, eqb, not, arith, rules, tests}
+use Rattle.std.proofs.lemmas.Iterator.{YieldsList-from_range}
+use Rattle.std.proofs.lemmas.Iterator.Search.{any_from_yields_List}
+use Rattle.std.specs.Int.Bits.{bit_and, bit_or}
 use Rattle.laws.specs.Bits.{width}
 use Rattle.laws.specs.Lists.{one}
+use Rattle.laws.specs.Tests.{any_below}
 use Rattle.laws.proofs.Counts.{flag}
-use Rattle.registers.proofs.Wired.{seen-begins, seen-turns, wire-is}
+use Rattle.gate_sound.proofs.Ranges.{any_in_range}
+use Rattle.registers.proofs.Wired.{wire_is}
 use Rattle.registers.proofs.wire.Goals as goal
 
-pub loop-i-init : goal.loop-i-init
-loop-i-init c = seen-begins _ _
-
-pub loop-i-preserved : goal.loop-i-preserved
-loop-i-preserved c =
-    let m = c.args.map.now in
-    let w = c.div_ceil-w.result in
-    let i = c.loop-i.i in
-    let e : w ≡ width c.args.n = omega arith in
-    seen-turns c.args.n m i c.loop-i.seen (get_or m i 0) (get_or m (w + i) 0) (get_or m (w + w + i) 0) c.loop-i.invariant refl
-    (ap (λ (v : ℕ). get_or m (v + i) 0) e)
-    (ap (λ (v : ℕ). get_or m (v + v + i) 0) e)
-    (c.type_inv.map i).fits
-    (c.type_inv.map (w + i)).fits
-    (c.type_inv.map (w + w + i)).fits
+-- a bit in one of the first w bytes, which are v apart
+abbrev up : List ℕ → ℕ → ℕ → Bool
+up m v i = not (eqb (bit_and (bit_or (get_or m i 0) (get_or m (v + i) 0)) (get_or m (v + v + i) 0)) 0)
 
 pub returns : goal.returns
 returns c =
-    let is = wire-is c.args.n c.args.map.now c.loop-i.i c.loop-i.seen (omega arith) c.requires.3 c.loop-i.invariant in
-    c.from.ensures ∙ flag (not (eqb c.loop-i.seen 0)) ∙ ap one is
+    let m = c.args.map.now in
+    let w = c.div_ceil-w.result in
+    let e : w ≡ width c.args.n = omega arith in
+    let found =
+    any_from_yields_List (up m w) _ _ c.any.result c.any.ensures.ran (YieldsList-from_range 0 w w refl (omega arith)) (λ x b q k. search (rules, tests))
+    ∙ any_in_range (up m w) w in
+    c.from.ensures
+    ∙ flag c.any.result
+    ∙ ap one (found ∙ ap (λ (v : ℕ). any_below v (up m v)) e ∙ wire_is c.args.n m (λ k. (c.type_inv.map k).fits) c.requires.1)

@@ -15,11 +15,11 @@ overflow_sub-chan c =
       arith,
       ap (λ (k : ℕ). get_or l (at_counts + k) 0) c.from-at.ensures,
       sym (get_d_part at_counts bins l o.result 0 o.ensures.1) ∙ ap (λ (k : ℕ). get_or (chan_of l).counts k 0) o.ensures.0,
-      (counts-within ring_len bins (chan_of l) c.requires.chan_len.1).lowered c.requires.at_filled_value,
+      (counts-within ring_len bins (chan_of l) c.requires.sound).lowered c.requires.at_filled_value,
     )
 
 pub returns : goal.returns
 returns c =
     let o = c.oldest_bin-oldest in
     rw (c.lead_left.ensures, c.from-at.ensures)
-    (evicted c.args.chan.now c.requires.chan_len.0 o.result o.ensures.0 o.ensures.1)
+    (evicted c.args.chan.now (omega arith) o.result o.ensures.0 o.ensures.1)

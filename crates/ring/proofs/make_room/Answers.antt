@@ -6,4 +6,4 @@ use Rattle.ring.proofs.make_room.Goals as goal
 
 pub returns-else-filled-eq-RING_LEN_U16 : goal.returns-else-filled-eq-RING_LEN_U16
 returns-else-filled-eq-RING_LEN_U16 c =
-    rw (ne_eqb (get_or c.args.chan.now at_filled 0) ring_len (λ e. omega arith)) (grown c.args.chan.now c.requires.0)
+    rw (ne_eqb (get_or c.args.chan.now at_filled 0) ring_len (λ e. omega arith)) (grown c.args.chan.now (omega arith))

@@ -10,8 +10,8 @@ overflow_sub-result c =
     let ch = chan_of c.args.chan.now in
     omega (
       arith,
-      c.requires.1.lead_within,
-      c.requires.1.recount 0 (omega arith),
+      c.requires.lead_within,
+      c.requires.recount 0 (omega arith),
       occ-le 0 (entries ch),
       length-take ch.filled ch.ring,
     )

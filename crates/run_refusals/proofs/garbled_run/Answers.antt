@@ -1,25 +1,49 @@
-use Rattle.std.proofs.Common.{◌≡◌, ◌≤◌, ◌+◌, ◌&&◌, ◌∙◌, sym, ap, ℕ, eqb, length, arith}
-use Rattle.laws.specs.Lists.{part}
-use Rattle.laws.proofs.Lists.{width, length_part}
+use Rattle.std.proofs.Common.{◌≡◌, ◌<◌, ◌&&◌, ◌||◌, ◌+◌, ◌%◌, ◌++◌, ◌∙◌, sym, ap, ℕ, List, eqb, length, arith}
+use lib.Ieee.{Float}
+use Rattle.model.specs.Layout.{decimation_hops}
 use Rattle.model.specs.Refusals.{garbled}
-use Rattle.run_refusals.proofs.Refuses.{left_of, left-more, next-at, next_fits}
+use Rattle.run_refusals.proofs.Refuses.{left_of, left-more, left-none}
 use Rattle.run_refusals.proofs.garbled_run.Goals as goal
 
-pub loop-i-preserved : goal.loop-i-preserved
-loop-i-preserved c =
-    let n = c.args.n in
-    let db = c.args.power_db.now in
-    let p = c.loop-i.p in
-    let at = c.loop-i.at in
-    let i = c.loop-i.i in
-    let fits : at + n ≤ length db = next_fits n c.args.hops i at (length db) c.requires.0 c.loop-i.invariant.0 (omega arith) in
-    let is : c.garbled_hop.result ≡ (eqb p 0 && garbled n (part at n db)) =
-    c.garbled_hop.ensures
-    ∙ ap (λ (w : ℕ). eqb p 0 && garbled (length (part at w db)) (part at w db)) (width at n)
-    ∙ ap (λ (k : ℕ). eqb p 0 && garbled k (part at n db)) (length_part at n db fits) in (
-      next-at n i at c.loop-i.invariant.0,
-      omega (arith, c.next_phase-p.ensures),
-      c.loop-i.invariant.2
-          ∙ left-more n db c.args.hops p at i (omega arith)
-          ∙ rw (sym is ∙ c.if-garbled_hop.false) (ap (λ (q : ℕ). left_of n db c.args.hops q (at + n) (i + 1)) (sym c.next_phase-p.ensures)),
-    )
+-- the next hop is in front of what is left
+turned : (n p size : ℕ) (hop rest rest' : List Float) → 0 < n → size ≡ n → rest ≡ hop ++ rest' → length hop ≡ size
+    → left_of n p rest ≡ ((eqb p 0 && garbled (length hop) hop) || left_of n ((p + 1) % decimation_hops) rest')
+turned n p size hop rest rest' some s e h = ap (left_of n p) e ∙ left-more n p some hop rest' (h ∙ s)
+
+pub loop-hop-init : goal.loop-hop-init
+loop-hop-init c =
+    let e = c.into_iter-hop-iterator.ensures.into_iter_gives in
+    let items = c.chunks_exact-hop-items.ensures in
+    record {
+      by_n = rw e items.size;
+      phased = c.requires.1;
+      left = ap (left_of c.args.n c.args.phase) (sym (rw e items.rest));
+    }
+
+pub returns-then-garbled_hop : goal.returns-then-garbled_hop
+returns-then-garbled_hop c =
+    let v = c.loop-hop.invariant in
+    let s = c.in-Some.ensures.steps in
+    sym (v.left ∙ turned _ _ _ _ _ _ c.requires.0 v.by_n s.1.0 s.1.1 ∙ rw (sym c.garbled_hop.ensures ∙ c.if-garbled_hop.true))
+
+pub next_phase-p-requires : goal.next_phase-p-requires
+next_phase-p-requires c = c.loop-hop.invariant.phased
+
+pub loop-hop-preserved : goal.loop-hop-preserved
+loop-hop-preserved c =
+    let v = c.loop-hop.invariant in
+    let s = c.in-Some.ensures.steps in
+    record {
+      by_n = s.0 ∙ v.by_n;
+      phased = omega (arith, c.next_phase-p.ensures);
+      left =
+          v.left
+          ∙ turned _ _ _ _ _ _ c.requires.0 v.by_n s.1.0 s.1.1
+          ∙ rw (sym c.garbled_hop.ensures ∙ c.if-garbled_hop.false) (ap (λ (p : ℕ). left_of c.args.n p c.next.new.self.rest.now) (sym c.next_phase-p.ensures));
+    }
+
+pub returns : goal.returns
+returns c =
+    let v = c.loop-hop.invariant in
+    let s = c.in-None.ensures.steps in
+    sym (v.left ∙ left-none c.args.n c.loop-hop.p c.requires.0 c.loop-hop.hop-iterator.rest.now (omega (arith, s.1.0, v.by_n)))

@@ -12,4 +12,4 @@ loop-k-preserved c =
     let a = c.args in
     let s = entry a.started a.smooth.now a.db.now in
     turns a.smooth.now s c.loop-k.k c.loop-k.smooth c.db_after.result c.loop-k.invariant (omega arith)
-    (c.db_after.ensures ∙ ap₂ (db_after a.started) (unwritten a.smooth.now s c.loop-k.k c.loop-k.smooth nan f0 c.loop-k.invariant (omega arith)) c.db_at.ensures)
+    (c.db_after.ensures ∙ ap₂ (db_after a.started) (unwritten a.smooth.now s c.loop-k.k c.loop-k.smooth nan f0 c.loop-k.invariant (omega arith)) c.entry_at.ensures)

@@ -6,4 +6,4 @@ use Rattle.watch_batch.proofs.keep_db.Goals as goal
 
 pub loop-k-preserved : goal.loop-k-preserved
 loop-k-preserved c =
-    turns c.args.smooth.now (entry c.args.gate_f.now) c.loop-k.k c.loop-k.smooth c.db_at.result c.loop-k.invariant (omega arith) c.db_at.ensures
+    turns c.args.smooth.now (entry c.args.gate_f.now) c.loop-k.k c.loop-k.smooth c.entry_at.result c.loop-k.invariant (omega arith) c.entry_at.ensures

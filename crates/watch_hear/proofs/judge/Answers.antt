@@ -2,7 +2,8 @@
 use Rattle.std.proofs.Common.{◌≡◌, rules}
 use Rattle.refusals.specs.Numbers.{number_of}
 use Rattle.watch_hear.specs.Judged.{Judged, judged}
-use Rattle.watch_hear.proofs.Steps.{refuses, refused, taken}
+use Rattle.refusals.proofs.Answers.{refuses}
+use Rattle.watch_hear.proofs.Steps.{refused, taken}
 use Rattle.watch_hear.proofs.judge.Goals as goal
 
 pub returns-in_err-judge_bank : goal.returns-in_err-judge_bank

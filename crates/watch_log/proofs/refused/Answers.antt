@@ -2,7 +2,7 @@
 use Rattle.std.proofs.Common.{◌≡◌, ℕ, refl}
 use Rattle.refusals.specs.declared.Refusal.{Refusal}
 use Rattle.refusals.specs.declared.Refusal.TheVariants as R
-use Rattle.watch_recording.specs.declared.Step.TheVariants.{Refused}
+use Rattle.watch_recording.specs.declared.Stop.TheVariants.{Refused}
 use Rattle.watch_log.specs.Logged.{refused_by}
 use Rattle.watch_log.proofs.refused.Goals as goal
 

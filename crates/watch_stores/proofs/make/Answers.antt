@@ -3,7 +3,8 @@ use Rattle.std.proofs.Common.{◌≡◌, ◌∙◌, rules, w32}
 use mir.Facts.{to_z-of_z}
 use Rattle.refusals.specs.Numbers.{number_of}
 use Rattle.watch_stores.specs.Made.{Made, made}
-use Rattle.watch_stores.proofs.Steps.{refuses, refused, both}
+use Rattle.refusals.proofs.Answers.{refuses}
+use Rattle.watch_stores.proofs.Steps.{refused, both}
 use Rattle.watch_stores.proofs.make.Goals as goal
 
 pub returns-in_err-bank_new : goal.returns-in_err-bank_new

@@ -1,7 +1,7 @@
 use Rattle.std.proofs.Common.{sym, arith}
 use Rattle.std.proofs.lemmas.Result.{err_from_is_err_and}
 use Rattle.model.specs.Bank.{hop}
-use Rattle.channel_readings.proofs.Readings.{refuses}
+use Rattle.refusals.proofs.Answers.{refuses}
 use Rattle.worst.proofs.Carries.{refused, beside, hop-asks, floors-ask, slow, other}
 use Rattle.worst.proofs.bank_update_worst.Goals as goal
 
