@@ -6,7 +6,7 @@ use native.Mathlib.Nat.{mul-suc, mul-zero}
 use native.Mathlib.Omega.{arith}
 use lib.ListN.{length, take, drop, set, replicate, length-append, length-drop, length-replicate, replicate-append-replicate}
 use lib.Ieee.{Float}
-use Rattle.laws.specs.Lists.{part, splice, joined}
+use Rattle.laws.specs.Lists.{part, splice, tab_from, joined}
 use Rattle.laws.proofs.Lists.{splice-mid, length_part, length-splice}
 use Rattle.std.proofs.lemmas.List.{length-take-le}
 use Rattle.model.specs.Bank.{blocks, fresh_channel, fresh_bank}
@@ -17,6 +17,10 @@ use Rattle.model.specs.Layout.{hist_min, bins, fresh_power, ring_len, channel_le
 -- ---- one value again and again
 
 module _ {A : Type 0} where
+  pub tab_from-same : (i n : ℕ) (v : A) → tab_from i n (λ _. v) ≡ replicate n v
+  tab_from-same i zero v = refl
+  tab_from-same i (suc n) v = ap (λ (r : List A). v ∷ r) (tab_from-same (suc i) n v)
+
   map-replicate : {B : Type 0} (g : A → B) (n : ℕ) (x : A) → map g (replicate n x) ≡ replicate n (g x)
   map-replicate g zero x = refl
   map-replicate {B = B} g (suc n) x = ap (λ (r : List B). g x ∷ r) (map-replicate g n x)

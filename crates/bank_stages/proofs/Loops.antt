@@ -5,7 +5,7 @@ use mathlib.Core.List.{List, [], ◌++◌, map}
 use Prim.Native.Nat.{ℕ, zero, suc, ◌+◌, ◌-◌, ◌*◌, ◌/◌, ◌<◌, ◌≤◌}
 use native.Mathlib.Omega.{arith}
 use lib.Dec.{eqb}
-use lib.ListN.{length, get_or, length-append}
+use lib.ListN.{length, get_or, length-append, length-take}
 use lib.Ieee.{Float, nan}
 use Rattle.laws.specs.Lists.{part, splice, tab, joined}
 use Rattle.laws.proofs.Lists.{width, row, length-splice, get_d_part, get_d_past, get_d-before, part-past, part-before}
@@ -13,12 +13,13 @@ use Rattle.laws.proofs.Tabs.{get_d-tab, tab-same, tab-ext, tab-get_d, length-joi
 use Rattle.laws.proofs.Defaults.{get_d_any}
 use Rattle.block.specs.Seeds.{Seedable, Seeded, pushes_at, sum_at}
 use Rattle.model.specs.Numbers.{f0, power_linear, smoothed}
-use Rattle.model.specs.Layout.{bins, ring_len, channel_len, block_channels}
-use Rattle.model.specs.Ring.{bin_of, push_in, raw_floor, usable_floor, since}
+use Rattle.model.specs.Layout.{bins, ring_len, at_filled, at_lead, channel_len, block_channels}
+use Rattle.model.specs.Ring.{bin_of, push_in, raw_floor, usable_floor, since, entries}
 use Rattle.model.specs.Bank.{hop, power_after, smooth_after, seeds_after, sums_after, block, blocks, median, rise_floor, channel, channel_after, chans_after, fresh_channel, raw_floors, usable_floors, block_floors, rise_floors}
 use Rattle.model.specs.Stores.{chan_u, chan_of, chan_part, base, bank_u16s, bank_floats, bank_of, bank_len, bank_f_len}
 use Rattle.model.specs.Sound.{Sound}
 use Rattle.model.proofs.Channels.{length-chan_u}
+use Rattle.laws.proofs.Counting.{occ-le}
 use Rattle.model.proofs.SoundRings.{sound-push}
 use Rattle.model.proofs.Bins.{bin-below}
 use Rattle.model.specs.GoodBank.{Ready}
@@ -63,6 +64,21 @@ module _ (u : List ℕ) (f : List Float) (n : ℕ) (s : Fits u f n) (k : ℕ) (h
 
   pub lent : (l : List ℕ) → l ≡ chan_part n u k → Sound ring_len bins (chan_of l)
   lent l e = subst (λ (p : List ℕ). Sound ring_len bins (chan_of p)) (sym e) (s.sound k h)
+
+  -- lead is at most filled
+  pub lead-filled : get_or u (base n + channel_len * k + at_lead) 0 ≤ get_or u (base n + channel_len * k + at_filled) 0
+  lead-filled =
+      let c = chan_of (chan_part n u k) in
+      let q = s.sound k h in
+      omega (
+        arith,
+        q.lead_within,
+        q.recount 0 (omega arith),
+        occ-le 0 (entries c),
+        length-take c.filled c.ring,
+        get_d_part (base n + channel_len * k) channel_len u at_filled 0 (omega arith),
+        get_d_part (base n + channel_len * k) channel_len u at_lead 0 (omega arith),
+      )
 
 -- ---- what the loops leave is the step, encoded
 

@@ -99,3 +99,6 @@ module _ (u : List ℕ) (f : List Float) (k : ℕ) (r : Readable u f k) where
       → gathered u f k n B e ≡ sources_at (bank_of u f) k
   sources_read n B a e d b p h =
       rw (d, b, h, p, width (base N + channel_len * k) channel_len) sources-are
+
+pub block-below : (n k : ℕ) → k < n → k / block_channels < blocks n
+block-below n k h = omega arith

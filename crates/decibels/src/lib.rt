@@ -17,19 +17,27 @@ fn rung_db(r: usize) -> f64
     LADDER_MIN_DB + r as f64 / 8.0
 }
 
-// The dB of a hop's powers, in front of an array for any hop's, since there is no heap. The table of the ladder is written out once for all of them.
+// The dB of a hop's powers. The table of the ladder is written out once for all of them.
+pub fn put_db(power: &[f32], db: &mut [f64])
+    requires { length db.old ≡ length power.now }
+    ensures { db.new ≡ decibels power.now }
+{
+    let rungs = rungs::table::rungs();
+    // By the place, and not by a zip of `iter_mut` with the powers: of what such a zip writes a proof knows nothing.
+    for (k, kept) in db.iter_mut().enumerate() {
+        let linear = powers::power_linear(power[k]);
+        let value = rung_db(rungs::highest_rung(&rungs, linear));
+        *kept = value;
+    }
+}
+
+// The same, in front of an array for any hop's, since there is no heap.
 pub fn hop_db(power: &[f32]) -> [f64; 512]
     requires { length power.now ≤ 512 }
     ensures { take (length power.now) result ≡ decibels power.now }
 {
-    let rungs = rungs::table::rungs();
     let mut db = [0.0; 512];
-    // By the place, and not by a zip of `iter_mut` with the powers: of what such a zip writes a proof knows nothing.
-    for (k, &p) in power.iter().enumerate() {
-        let linear = powers::power_linear(p);
-        let value = rung_db(rungs::highest_rung(&rungs, linear));
-        db[k] = value;
-    }
+    put_db(power, &mut db[..power.len()]);
     db
 }
 
@@ -37,6 +45,7 @@ pub fn hop_db(power: &[f32]) -> [f64; 512]
 pub fn power_db(power: f32) -> f64
     ensures { result ≡ power_db power }
 {
-    let db = hop_db(&[power]);
+    let mut db = [0.0];
+    put_db(&[power], &mut db);
     db[0]
 }

@@ -3,6 +3,7 @@ use mathlib.Core.Path.{◌≡◌, refl, ◌∙◌}
 use mathlib.Core.Bool.{Bool, true, not, ◌&&◌, ◌||◌}
 use mathlib.Core.List.{List}
 use Prim.Native.Nat.{ℕ, ◌*◌, ◌<◌, ◌≤◌}
+use native.Mathlib.Nat.{mul-le-mul_right}
 use native.Mathlib.Omega.{arith}
 use lib.Dec.{eqb, ltb, leb}
 use lib.ListN.{length, get_or}
@@ -13,6 +14,10 @@ use Rattle.laws.proofs.Tests.{and_l, and_r, all-at, passed, same_of, within_of}
 use Rattle.model.specs.GateStores.{m_at, cursor_at, filled_at, gate_f_len, sound_level, sound_triple, new_length, sound_triples, sound_head, sound_gate}
 use Rattle.model.specs.GateCalls.{gate_refusal}
 use Rattle.gate_sound.specs.Checks.{sound_length}
+
+-- the one product of two unknowns
+pub ring-small : (n m : ℕ) → n ≤ 512 → m ≤ 375 → 2 * m * n ≤ 384000
+ring-small n m h k = let z : 2 * m ≤ 750 = omega arith in omega (arith, mul-le-mul_right n z)
 
 -- ---- the u16 store
 

@@ -19,7 +19,10 @@ fn start_db(smooth: &mut [f64], power_db: &[f64])
     requires { length power_db.now ≡ length smooth.old }
     ensures { smooth.new ≡ tab (length smooth.old) (λ k. get_or power_db.now k f0) }
 {
-    smooth.copy_from_slice(power_db);
+    // By entries: as one copy the archive would need another function from outside.
+    for (k, kept) in smooth.iter_mut().enumerate() {
+        *kept = power_db[k];
+    }
 }
 
 // Every later one.

@@ -61,7 +61,13 @@ impl Pairs<'_> {
         requires { from + count ≤ length self.now.db.now }
         ensures { (result ≡ tally count (marked self.now from)) × (result ≤ count) }
     {
-        (from..from + count).filter(|&i| self.is_changed(i)).count()
+        // A copy, here and in the two that write: whoever reads behind `self` reads where the slices are again at each turn.
+        let pairs = *self;
+        let mut changed = 0;
+        for k in 0..count {
+            changed += usize::from(pairs.is_changed(from + k));
+        }
+        changed
     }
 
     // Byte b of the map of the hop that begins at place `from`: whether each of eight pairs changed, the first in the lowest bit. The last byte may
@@ -86,9 +92,10 @@ impl Pairs<'_> {
         requires room { at + width self.now.n ≤ length log.old }
         ensures { log.new ≡ put at (map_of self.now.n (marked self.now from)) log.old }
     {
-        let width = self.n.div_ceil(8);
+        let pairs = *self;
+        let width = pairs.n.div_ceil(8);
         for (b, byte) in log[at..at + width].iter_mut().enumerate() {
-            *byte = self.map_byte(from, b);
+            *byte = pairs.map_byte(from, b);
         }
     }
 
@@ -100,11 +107,12 @@ impl Pairs<'_> {
         ensures value { result ≡ at + 12 * tally self.now.n (marked self.now from) }
         ensures log_after { log.new ≡ put at (pairs_of self.now.n (marked self.now from) (db_bits self.now from) (power_bits self.now from)) log.old }
     {
+        let pairs = *self;
         let mut pair = at;
-        for k in 0..self.n {
+        for k in 0..pairs.n {
             let i = from + k;
-            if self.is_changed(i) {
-                put_pair(log, pair, self.db[i], self.power[i]);
+            if pairs.is_changed(i) {
+                put_pair(log, pair, pairs.db[i], pairs.power[i]);
                 pair += 12;
             }
         }

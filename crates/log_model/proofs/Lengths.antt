@@ -3,7 +3,7 @@ use mathlib.Core.Path.{◌≡◌, refl, sym, ap, ap₂, ◌∙◌}
 use mathlib.Core.Bool.{Bool, true, false, cond}
 use mathlib.Core.List.{List, [], ◌++◌}
 use Prim.Native.Nat.{ℕ, zero, suc, ◌+◌, ◌*◌, ◌/◌, ◌%◌, ◌<◌, ◌≤◌}
-use native.Mathlib.Nat.{mul-suc, mul-zero, div-add-mod}
+use native.Mathlib.Nat.{mul-suc, mul-zero, div-add-mod, mul-le-mul_right, mul-div-le}
 use native.Mathlib.Numerals.{add-one}
 use native.Mathlib.Omega.{arith}
 use lib.ListN.{length, get_or, length-append}
@@ -87,6 +87,12 @@ module _ (n : ℕ) (db power : List ℕ) where
 -- whole hops
 pub hops-whole : (n l : ℕ) → l % n ≡ 0 → n * (l / n) ≡ l
 hops-whole n l h = omega (arith, div-add-mod l n)
+
+-- the maps of all hops are no longer than the slices
+pub maps-fit : (n l : ℕ) → 1 ≤ n → width n * (l / n) ≤ l
+maps-fit n l h =
+    let e : width n ≤ n = omega arith in
+    omega (arith, mul-le-mul_right (l / n) e, mul-div-le l n)
 
 pub log-parts : (n : ℕ) (db power : List ℕ) → length (log_of n db power) ≡ 2 + length (joined (tab (length db / n) (hop_at n db power)))
 unfolding log_of

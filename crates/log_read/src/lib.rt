@@ -35,7 +35,11 @@ pub fn count_set(log: &[u8], at: usize, n: usize) -> usize
     requires { at + width n ≤ length log.now }
     ensures { (result ≡ tally n (is_set log.now at)) × (result ≤ n) }
 {
-    (0..n).filter(|&k| is_set(log, at, k)).count()
+    let mut count = 0;
+    for k in 0..n {
+        count += usize::from(is_set(log, at, k));
+    }
+    count
 }
 
 // The pair at `pair` is this one: two numbers, each from its own slice.

@@ -5,10 +5,13 @@ use mathlib.Core.List.{List}
 use Prim.Native.Nat.{ℕ, ◌+◌, ◌-◌, ◌*◌, ◌<◌, ◌≤◌}
 use native.Mathlib.Omega.{arith}
 use lib.Dec.{eqb, ltb}
-use lib.ListN.{get_or}
+use lib.ListN.{length, get_or, replicate, length-replicate, get_or-replicate}
+use lib.Seq.{ext_get_or}
 use lib.Bits.{bit_and, and_lt}
 use borrow.Author.Tests.{eq-eqb, eqb-true, le-ltb, ltb-false}
+use Rattle.laws.specs.Lists.{tab}
 use Rattle.laws.proofs.Tests.{by-test, both_ways}
+use Rattle.laws.proofs.Tabs.{length-tab, get_d-tab}
 use Rattle.laws.specs.Bits.{bit_at, byte, width, bit_of}
 use Rattle.laws.proofs.Bits.{number_lt, bits-number, bit-at}
 use Rattle.bits.proofs.Operators.{same_bits, bits-and}
@@ -91,3 +94,12 @@ module _ (n : ℕ) (m : List ℕ) (w low : ℕ) where
       (lt (w - 1))
       (lt (w + w - 1))
       (lt (w + w + w - 1))
+
+-- ---- making
+
+pub all-zero : (l : List ℕ) (n : ℕ) → l ≡ tab n (λ k. 0) → l ≡ replicate n 0
+all-zero l n e =
+    e
+    ∙ ext_get_or 0 (tab n (λ k. 0)) (replicate n 0) (length-tab n (λ k. 0) ∙ sym (length-replicate n 0))
+    (λ i h. (let lt : i < n = omega (arith, length-tab {A = ℕ} n (λ k. 0)) in
+    get_d-tab n (λ k. 0) i 0 lt ∙ sym (get_or-replicate n i 0 0 lt)))

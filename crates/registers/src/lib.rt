@@ -60,13 +60,18 @@ pub fn map_write(
     Ok(())
 }
 
-// 1 where some flag and its channel's mask bit are both 1, and 0 otherwise: a byte and no bool, as C reads it.
+// 1 where some flag and its channel's mask bit are both 1, and 0 otherwise: a byte and no bool, as C reads it. A loop without a way out, so that it is
+// compiled to wide steps: a wire that is asked again and again is mostly down.
 fn wire(map: &[u8], n: usize) -> u8
     requires { (length map.now ≡ map_long n) × (sound_map n map.now ≡ true) }
     ensures { result ≡ one (wire n map.now) }
 {
     let w = n.div_ceil(8);
-    u8::from((0..w).any(|i| (map[i] | map[w + i]) & map[w + w + i] != 0))
+    let mut up = false;
+    for i in 0..w {
+        up |= (map[i] | map[w + i]) & map[w + w + i] != 0;
+    }
+    u8::from(up)
 }
 
 #[tactic(auto, using(crate::proofs::Lent::lent_map), unfolding(model::specs::MapCalls::map_wire_call))]

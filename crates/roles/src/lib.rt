@@ -2,7 +2,7 @@
 // right that it asks for.
 #![tactic(auto)]
 
-ghost use Rattle.std.specs.Prelude.{◌≡◌, ◌&&◌, leb};
+ghost use Rattle.std.specs.Prelude.{◌≡◌, ◌&&◌, ℕ, leb};
 ghost use Rattle.roles.specs.Rights.{technician};
 ghost use Rattle.roles.specs.Roles.{role_number, Decodes};
 
@@ -33,6 +33,34 @@ impl TryFrom<u16> for Role {
     }
 }
 
+// Who has a right at the least: a role, or a number, which need be no role's: there is none above the technician.
+pub trait Least: Copy {
+    ghost rank: { Self → ℕ };
+
+    fn number(self) -> u16
+        ensures { result ≡ rank self };
+}
+
+impl Least for Role {
+    ghost rank = { role_number };
+
+    fn number(self) -> u16 {
+        match self {
+            Role::Keeper => 0,
+            Role::Leader => 1,
+            Role::Technician => 2,
+        }
+    }
+}
+
+impl Least for u16 {
+    ghost rank = { λ n. n };
+
+    fn number(self) -> u16 {
+        self
+    }
+}
+
 // The rights, in the words of document 02, and the least role that has each.
 pub const READING: Role = Role::Keeper;
 
@@ -56,11 +84,11 @@ pub const DISPATCHING: Role = Role::Technician;
 pub const STOPPED: u16 = 16;
 
 // Whether the role of this number has a right that `least` and those after it have.
-pub fn may(least: Role, role: u16) -> bool
-    ensures { result ≡ (leb (role_number least) role && leb role technician) }
+pub fn may<L: Least>(least: L, role: u16) -> bool
+    ensures { result ≡ (leb (L.rank least) role && leb role technician) }
 {
     match Role::try_from(role) {
-        Ok(role) => least <= role,
+        Ok(role) => least.number() <= role.number(),
         Err(_) => false,
     }
 }

@@ -49,6 +49,12 @@ whole len hops n p z =
     (λ t. eq-eqb len (hops * n) (sym (div-add-mod' len n) ∙ rw (z, eqb-true (len / n) hops t) (add-zero (hops * n))))
     (λ t. eq-eqb (len / n) hops (ap (λ (x : ℕ). x / n) (eqb-true len (hops * n) t) ∙ mul-div_cancel hops p))
 
+-- where all are, the dB are
+pub db_long : (n hops db power rise fall : ℕ) → not_long_by n hops db power rise fall ≡ false → db ≡ hops * n
+db_long n hops db power rise fall e =
+    let L = hops * n in
+    same_of db L (or_l (differ db L) (differ power L) (or_l (differ db L || differ power L) (differ rise L) (or_l (differ db L || differ power L || differ rise L) (differ fall L) e)))
+
 -- the first slice that has another length than the dB, which are as long as the run
 module _ (n hops db power rise fall : ℕ) where
   abbrev L : ℕ

@@ -1,7 +1,7 @@
 // What follows on a hop: it is told and counted, or the watch ends.
 #![tactic(auto)]
 
-ghost use Rattle.std.specs.Prelude.{◌≡◌};
+ghost use Rattle.std.specs.Prelude.{◌≡◌, None};
 ghost use Rattle.watch_follow.specs.Followed.{after_hop, followed};
 
 use origins::Explanation;
@@ -40,21 +40,21 @@ pub fn follow(
         Ok(size) => Some(take_hop(
             w, size, place, before, stores, hop, alive, alive_hops, events, rises,
         )),
-        Err(stop) => {
-            print_stop(w, place, stop);
-            None
-        }
+        Err(stop) => print_stop(w, place, stop),
     }
 }
 
-// Why no more hops are taken.
-pub fn print_stop(w: Watched, place: Place, stop: Stop) {
+// Why no more hops are taken; so there is no next place.
+pub fn print_stop(w: Watched, place: Place, stop: Stop) -> Option<Place>
+    ensures { result ≡ None }
+{
     match stop {
         Stop::End => {}
         Stop::Cut(got) => faults::print_cut(w, place, got),
         Stop::BadFlag(flag) => faults::print_bad_flag(w, place, flag),
         Stop::Refused(refusal) => faults::print_refused(w, place, refusal),
     }
+    None
 }
 
 // What the marks of a hop change, told and then taken over.

@@ -120,10 +120,7 @@ fn watch_next(
         Ok(hops) => take_batch(
             w, place, hops, stores, bytes, hold, db, power, rise, drop, kept,
         ),
-        Err(stop) => {
-            print_stop(w, place, stop);
-            None
-        }
+        Err(stop) => print_stop(w, place, stop),
     }
 }
 
@@ -162,10 +159,7 @@ fn take_batch(
                 w, taken, place, before, started, stores, batch, smooth, kept,
             ))
         }
-        Err(stop) => {
-            print_stop(w, place, stop);
-            None
-        }
+        Err(stop) => print_stop(w, place, stop),
     }
 }
 

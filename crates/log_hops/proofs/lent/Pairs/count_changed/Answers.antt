@@ -1,16 +1,27 @@
--- Those of the places that the filter lets through.
-use Rattle.std.proofs.Common.{◌+◌, ℕ, Bool, rules, tests, arith}
-use Rattle.std.proofs.lemmas.Iterator.{YieldsList-from_range}
-use Rattle.std.proofs.lemmas.Iterator.Consumers.{count_from_yields_List, YieldsList-from_filter}
-use Rattle.log_model.specs.Format.{changed}
-use Rattle.log_model.proofs.Counts.{counted}
+-- One pair more: the tally of one more is whether it changed, as a number, more.
+use Rattle.std.proofs.Common.{◌≡◌, ℕ, Bool, refl, ap, ◌∙◌, arith}
+use Rattle.laws.specs.Lists.{one}
+use Rattle.laws.specs.Tests.{tally}
+use Rattle.laws.proofs.Counting.{one-le}
+use Rattle.laws.proofs.Counts.{flag}
+use Rattle.laws.proofs.Tallies.{tally-more}
+use Rattle.log_hops.specs.Hop.{marked}
 use Rattle.log_hops.proofs.lent.Pairs.count_changed.Goals as goal
+
+pub loop-k-init : goal.loop-k-init
+unfolding tally
+loop-k-init c = (refl, omega arith)
+
+pub overflow_add-changed : goal.overflow_add-changed
+overflow_add-changed c = omega (arith, c.loop-k.invariant.1, c.from-changed.ensures ∙ flag c.is_changed.result, one-le c.is_changed.result)
+
+pub loop-k-preserved : goal.loop-k-preserved
+loop-k-preserved c =
+    let p : ℕ → Bool = marked c.args.self.now c.args.from in
+    let e = c.from-changed.ensures ∙ flag c.is_changed.result ∙ ap one c.is_changed.ensures in
+    (omega (arith, c.loop-k.invariant.0, tally-more c.loop-k.k p, e), omega (arith, c.loop-k.invariant.1, e, one-le (p c.loop-k.k)))
 
 pub returns : goal.returns
 returns c =
-    let a = c.args in
-    let s = a.self.now in
-    let p : ℕ → Bool = changed s.n s.db.now s.power.now in
-    counted p a.from a.count c.count.result
-    (count_from_yields_List _ c.count.result c.count.ensures.ran
-    (YieldsList-from_filter _ p (YieldsList-from_range a.from (a.from + a.count) a.count c.filter.ensures.source (omega arith)) c.filter.ensures.closure (λ x b q k. search (rules, tests))))
+    let e : c.loop-k.k ≡ c.args.count = omega arith in
+    (c.loop-k.invariant.0 ∙ ap (λ (i : ℕ). tally i (marked c.args.self.now c.args.from)) e, omega (arith, c.loop-k.invariant.1))
