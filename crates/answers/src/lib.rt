@@ -4,22 +4,22 @@
 pub mod explained;
 
 ghost use Rattle.std.specs.Prelude.{◌≡◌};
-ghost use Rattle.refusals.specs.Numbers.{numbered};
+ghost use Rattle.refusals.specs.Numbers.{numbered_by};
 ghost use Rattle.answers.specs.Answers.{floors_answered, ring_answered};
 
 use model::Floors;
 use model::layout::RING_LEN;
-use refusals::Refusal;
+use refusals::Refuses;
 
 // The three floors, each written only if the reading has them.
 #[tactic(auto, unfolding(crate::specs::Answers::floors_answered))]
-pub fn floors_answer(
-    reading: Result<Floors, Refusal>,
+pub fn floors_answer<E: Refuses>(
+    reading: Result<Floors, E>,
     effective: &mut f64,
     rise: &mut f64,
     raw: &mut f64,
 ) -> u16
-    ensures { (result, effective.new, rise.new, raw.new) ≡ floors_answered effective.old rise.old raw.old (numbered reading) }
+    ensures { (result, effective.new, rise.new, raw.new) ≡ floors_answered effective.old rise.old raw.old (numbered_by E.number reading) }
 {
     match reading {
         Ok(x) => {
@@ -28,7 +28,7 @@ pub fn floors_answer(
             *raw = x.raw;
             0
         }
-        Err(refused) => refused.number(),
+        Err(refused) => refused.to_number(),
     }
 }
 

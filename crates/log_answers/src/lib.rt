@@ -2,16 +2,16 @@
 #![tactic(auto)]
 
 ghost use Rattle.std.specs.Prelude.{◌≡◌};
-ghost use Rattle.refusals.specs.Numbers.{numbered};
+ghost use Rattle.refusals.specs.Numbers.{numbered_by};
 ghost use Rattle.refusals.specs.Readings.{some_answered};
 
-use refusals::Refusal;
+use refusals::Refuses;
 
 // "End" is no refusal; its number stands outside their range.
 const END: u16 = 100;
 
-pub fn read_answer(answer: Result<Option<usize>, Refusal>, position: &mut usize) -> u16
-    ensures { (result, position.new) ≡ some_answered 100 position.old (numbered answer) }
+pub fn read_answer<E: Refuses>(answer: Result<Option<usize>, E>, position: &mut usize) -> u16
+    ensures { (result, position.new) ≡ some_answered 100 position.old (numbered_by E.number answer) }
 {
     refusals::some_answer(END, answer, position)
 }

@@ -3,12 +3,12 @@
 #![tactic(auto)]
 
 ghost use Rattle.std.specs.Prelude.{◌≡◌};
-ghost use Rattle.refusals.specs.Numbers.{numbered};
+ghost use Rattle.refusals.specs.Numbers.{numbered, numbered_by};
 ghost use Rattle.refusals.specs.Readings.{some_or};
 ghost use Rattle.log_model.specs.Read.{read_hop};
 ghost use Rattle.log_reader.specs.Reader.{advanced};
 
-use refusals::Refusal;
+use refusals::{Refusal, Refuses};
 
 #[derive(Clone, Copy)]
 pub struct LogReader<'a> {
@@ -17,8 +17,8 @@ pub struct LogReader<'a> {
 }
 
 // Where a reader that stood at `at` stands after an answer: only a hop that was read moves it.
-pub fn place_after(answer: Result<Option<usize>, Refusal>, at: usize) -> usize
-    ensures { result ≡ some_or at (numbered answer) }
+pub fn place_after<E: Refuses>(answer: Result<Option<usize>, E>, at: usize) -> usize
+    ensures { result ≡ some_or at (numbered_by E.number answer) }
 {
     match answer {
         Ok(Some(next)) => next,

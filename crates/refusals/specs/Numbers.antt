@@ -26,7 +26,15 @@ abbrev pub answer : Result (Unit {0}) Refusal → ℕ
 answer (Ok x) = 0
 answer (Err e) = number_of e
 
+-- the same of what has its numbers by `of`
+abbrev pub answer_by : {E : Type 0} → (E → ℕ) → Result (Unit {0}) E → ℕ
+answer_by of (Ok x) = 0
+answer_by of (Err e) = of e
+
 -- of a call with a reading: the value, or the number of its refusal
+abbrev pub numbered_by : {A E : Type 0} → (E → ℕ) → Result A E → Result A ℕ
+numbered_by of (Ok x) = Ok x
+numbered_by of (Err e) = Err (of e)
+
 abbrev pub numbered : {A : Type 0} → Result A Refusal → Result A ℕ
-numbered (Ok x) = Ok x
-numbered (Err e) = Err (number_of e)
+numbered = numbered_by number_of

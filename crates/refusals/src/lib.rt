@@ -2,8 +2,8 @@
 // number each refusal has stands in specs/.
 #![tactic(auto)]
 
-ghost use Rattle.std.specs.Prelude.{◌≡◌};
-ghost use Rattle.refusals.specs.Numbers.{number_of, answer, numbered};
+ghost use Rattle.std.specs.Prelude.{◌≡◌, ℕ};
+ghost use Rattle.refusals.specs.Numbers.{number_of, answer, numbered_by};
 ghost use Rattle.refusals.specs.Readings.{answered, some_answered};
 
 #[derive(Clone, Copy, Debug, PartialEq, Eq)]
@@ -52,6 +52,42 @@ impl Refusal {
     }
 }
 
+// What a call is refused by: a refusal, or a number, which need be no refusal's.
+pub trait Refuses: Copy {
+    ghost number: { Self → ℕ };
+
+    fn to_number(self) -> u16
+        ensures { result ≡ number self };
+
+    // A store has another length than the one for its n.
+    fn store_size() -> Self
+        ensures { number result ≡ 2 };
+}
+
+impl Refuses for Refusal {
+    ghost number = { number_of };
+
+    fn to_number(self) -> u16 {
+        self.number()
+    }
+
+    fn store_size() -> Refusal {
+        Refusal::StoreSize
+    }
+}
+
+impl Refuses for u16 {
+    ghost number = { λ n. n };
+
+    fn to_number(self) -> u16 {
+        self
+    }
+
+    fn store_size() -> u16 {
+        2
+    }
+}
+
 // For C, of a call without a reading: 0, or the number of its refusal.
 pub fn answer(done: Result<(), Refusal>) -> u16
     ensures { result ≡ answer done }
@@ -63,21 +99,25 @@ pub fn answer(done: Result<(), Refusal>) -> u16
 }
 
 // Of a reading: the same, and the value is written only where there is one.
-pub fn value_answer<T: Copy>(reading: Result<T, Refusal>, value: &mut T) -> u16
-    ensures { (result, value.new) ≡ answered value.old (numbered reading) }
+pub fn value_answer<T: Copy, E: Refuses>(reading: Result<T, E>, value: &mut T) -> u16
+    ensures { (result, value.new) ≡ answered value.old (numbered_by E.number reading) }
 {
     match reading {
         Ok(x) => {
             *value = x;
             0
         }
-        Err(refusal) => refusal.number(),
+        Err(refusal) => refusal.to_number(),
     }
 }
 
 // Of a reading that may be none, which `none` says: nothing is written then either.
-pub fn some_answer<T: Copy>(none: u16, reading: Result<Option<T>, Refusal>, value: &mut T) -> u16
-    ensures { (result, value.new) ≡ some_answered none value.old (numbered reading) }
+pub fn some_answer<T: Copy, E: Refuses>(
+    none: u16,
+    reading: Result<Option<T>, E>,
+    value: &mut T,
+) -> u16
+    ensures { (result, value.new) ≡ some_answered none value.old (numbered_by E.number reading) }
 {
     match reading {
         Ok(Some(x)) => {
@@ -85,6 +125,6 @@ pub fn some_answer<T: Copy>(none: u16, reading: Result<Option<T>, Refusal>, valu
             0
         }
         Ok(None) => none,
-        Err(refusal) => refusal.number(),
+        Err(refused) => refused.to_number(),
     }
 }

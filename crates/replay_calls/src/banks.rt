@@ -18,10 +18,11 @@ pub fn replay_update<'a>(r: Replay<'a>, s: Stores) -> Replay<'a> {
     let Stores { bank, bank_f, .. } = s;
     let mut db = [0.0f64; MOST];
     let mut power = [0.0f32; MOST];
-    let (db, power) = (&mut db[..r.n], &mut power[..r.n]);
+    let n = r.n.min(MOST);
+    let (db, power) = (&mut db[..n], &mut power[..n]);
     fill_hop(r.list, r.hop, db, power);
     let done = bank::bank_update_holding_reference(bank, bank_f, db, power, r.byte(1) == 1);
-    let bytes = 2 + 2 * r.n;
+    let bytes = 2 + 2 * n;
     r.passed(1 + bytes, answer_differs(r, bytes, done))
 }
 
@@ -38,10 +39,13 @@ pub fn replay_reading<'a>(r: Replay<'a>, s: Stores) -> Replay<'a> {
     passed_reading(r, got)
 }
 
-// 4, the sum of the u16 store, the f64 store: what both hold.
+// 4, the sum of the u16 store, the f64 store: what both hold. The record has the floats of a bank of n, however many were lent.
 pub fn replay_stores<'a>(r: Replay<'a>, s: Stores) -> Replay<'a> {
     let Stores { bank, bank_f, .. } = s;
-    passed_stores(r, bank, bank_f)
+    let end = after(r.at, 9 + 8 * r.store_f_len());
+    let mut next = passed_stores(r, bank, bank_f);
+    next.at = end;
+    next
 }
 
 // 5, k, answer, effective, rise and raw floor: the three floors.

@@ -5,7 +5,7 @@ use replay_data::compare::{answer_differs, passed_reading, passed_stores};
 use replay_data::hop::fill_hop;
 use replay_data::marks::passed_marks;
 use replay_data::state::{MOST, Replay, after};
-use replay_data::stores::Stores;
+use replay_data::stores::GateStores;
 
 // A gate takes 8 lengths; the list may ask for one with more.
 const MOST_LENGTHS: usize = 9;
@@ -25,8 +25,8 @@ fn fill_lengths(list: &[u8], at: usize, lengths: &mut [u16]) {
 }
 
 // 6, n, f64 length, on, off, early, number of lengths, lengths, answer: a fresh gate. None where a list that asks for more lengths ends.
-pub fn replay_new<'a>(r: Replay<'a>, s: Stores) -> Option<Replay<'a>> {
-    let Stores { gate, gate_f, .. } = s;
+pub fn replay_new<'a>(r: Replay<'a>, s: GateStores) -> Option<Replay<'a>> {
+    let GateStores { gate, gate_f, .. } = s;
     let count = r.index(10);
     if count > MOST_LENGTHS {
         return None;
@@ -48,8 +48,8 @@ pub fn replay_new<'a>(r: Replay<'a>, s: Stores) -> Option<Replay<'a>> {
 }
 
 // 7, answer, n rise bytes, n drop bytes: a gate update with the hop of the last single bank update.
-pub fn replay_update<'a>(r: Replay<'a>, s: Stores) -> Replay<'a> {
-    let Stores {
+pub fn replay_update<'a>(r: Replay<'a>, s: GateStores) -> Replay<'a> {
+    let GateStores {
         bank,
         bank_f,
         gate,
@@ -59,15 +59,16 @@ pub fn replay_update<'a>(r: Replay<'a>, s: Stores) -> Replay<'a> {
     } = s;
     let mut db = [0.0f64; MOST];
     let mut power = [0.0f32; MOST];
-    let (db, power) = (&mut db[..r.n], &mut power[..r.n]);
+    let n = r.n.min(MOST);
+    let (db, power) = (&mut db[..n], &mut power[..n]);
     fill_hop(r.list, r.hop, db, power);
     let done = gate::gate_update(bank, bank_f, gate, gate_f, db, power, rise, drop);
     passed_marks(r, after(r.at, 1), done, rise, drop)
 }
 
 // 8 and the same: a hold.
-pub fn replay_hold<'a>(r: Replay<'a>, s: Stores) -> Replay<'a> {
-    let Stores {
+pub fn replay_hold<'a>(r: Replay<'a>, s: GateStores) -> Replay<'a> {
+    let GateStores {
         bank,
         bank_f,
         gate,
@@ -80,8 +81,8 @@ pub fn replay_hold<'a>(r: Replay<'a>, s: Stores) -> Replay<'a> {
 }
 
 // 9, kind, k, answer, value: a reading.
-pub fn replay_reading<'a>(r: Replay<'a>, s: Stores) -> Replay<'a> {
-    let Stores {
+pub fn replay_reading<'a>(r: Replay<'a>, s: GateStores) -> Replay<'a> {
+    let GateStores {
         bank,
         bank_f,
         gate,
@@ -97,7 +98,7 @@ pub fn replay_reading<'a>(r: Replay<'a>, s: Stores) -> Replay<'a> {
 }
 
 // 10, the sum of the u16 store, the f64 store: what both hold. As of a bank; only which stores they are differs.
-pub fn replay_stores<'a>(r: Replay<'a>, s: Stores) -> Replay<'a> {
-    let Stores { gate, gate_f, .. } = s;
+pub fn replay_stores<'a>(r: Replay<'a>, s: GateStores) -> Replay<'a> {
+    let GateStores { gate, gate_f, .. } = s;
     passed_stores(r, gate, gate_f)
 }

@@ -42,8 +42,8 @@ pub struct Replay<'a> {
     pub floats: usize,
     pub records: u64,
     pub differences: u64,
-    ghost few_channels: { n ≤ 33 },
-    ghost few_floats: { floats ≤ 2314 },
+    ghost few_channels: { n < 256 },
+    ghost few_floats: { floats < 65536 },
 }
 
 impl<'a> Replay<'a> {
@@ -124,13 +124,13 @@ impl<'a> Replay<'a> {
 
     // How long the stores of its bank are.
     pub fn store_len(self) -> usize
-        ensures { (result ≡ 3 + (self.entry.n + 31) / 32 + 573 * self.entry.n) × (result ≤ 18914) }
+        ensures { (result ≡ 3 + (self.entry.n + 31) / 32 + 573 * self.entry.n) × (self.entry.n ≤ 33 → result ≤ 18914) }
     {
         3 + (self.n + BLOCK_REST) / BLOCK_CHANNELS + CHANNEL_LEN * self.n
     }
 
     pub fn store_f_len(self) -> usize
-        ensures { (result ≡ 4 * self.entry.n + 2 * ((self.entry.n + 31) / 32)) × (result ≤ 136) }
+        ensures { (result ≡ 4 * self.entry.n + 2 * ((self.entry.n + 31) / 32)) × ((self.entry.n ≤ 33 → result ≤ 136) × (result < 1100)) }
     {
         4 * self.n + 2 * ((self.n + BLOCK_REST) / BLOCK_CHANNELS)
     }

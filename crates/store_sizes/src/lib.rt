@@ -2,16 +2,16 @@
 // n is lent as a number or read from a store, and here the type would be made of it only to be asked for that number.
 #![tactic(auto)]
 
-ghost use Rattle.std.specs.Prelude.{◌≡◌, ◌≤◌, ℕ};
+ghost use Rattle.std.specs.Prelude.{◌≡◌, ◌≤◌};
 ghost use Rattle.laws.specs.Tests.{within};
 ghost use Rattle.model.specs.Bank.{blocks as blocks_of};
 ghost use Rattle.model.specs.Stores.{base as base_of};
 ghost use Rattle.model.specs.Calls.{bank_len_for, bank_f_len_for};
-ghost use Rattle.refusals.specs.Numbers.{number_of, answer};
-ghost use Rattle.store_sizes.specs.Checks.{answer_by, size_refusal};
+ghost use Rattle.refusals.specs.Numbers.{answer_by};
+ghost use Rattle.store_sizes.specs.Checks.{size_refusal};
 
 use model::layout::{BLOCK_CHANNELS, CHANNEL_LEN};
-use refusals::Refusal;
+use refusals::Refuses;
 
 pub fn blocks(n: usize) -> usize
     requires { n ≤ 512 }
@@ -54,31 +54,6 @@ pub fn bank_f_len(n: usize) -> usize
         return 0;
     }
     4 * n + blocks(n) + blocks(n)
-}
-
-// What a size is refused by: a refusal, or a number, which need be no refusal's.
-pub trait Refuses: Copy {
-    ghost number: { Self → ℕ };
-
-    // A store has another length than the one for its n.
-    fn store_size() -> Self
-        ensures { number result ≡ 2 };
-}
-
-impl Refuses for Refusal {
-    ghost number = { number_of };
-
-    fn store_size() -> Refusal {
-        Refusal::StoreSize
-    }
-}
-
-impl Refuses for u16 {
-    ghost number = { λ n. n };
-
-    fn store_size() -> u16 {
-        2
-    }
 }
 
 // The refusals over sizes; `band` is the one for an n that no bank has.

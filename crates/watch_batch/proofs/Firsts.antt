@@ -3,6 +3,7 @@ use Rattle.std.proofs.Common.{◌≡◌, refl, sym, ◌∙◌, Bool, true, false
 use native.Mathlib.Nat.{mul-le-mul_left}
 use Rattle.std.proofs.lemmas.Bool.Decides.{nat_tests}
 use Rattle.std.specs.Prelude.{◌&&◌, ◌+◌, leb, nat_lt, Result, Ok, Err}
+use Rattle.refusals.specs.declared.Refusal.{Refusal}
 use Rattle.low_first.specs.LowFirst.{byte_at}
 use Rattle.watch_recording.specs.declared.Hop.{Hop}
 use Rattle.watch_recording.specs.declared.Stop.{Stop}
@@ -10,7 +11,7 @@ use Rattle.watch_recording.specs.Recording.{step_of}
 use Rattle.watch_batch.specs.Batch.{Whole, Front, is_whole}
 
 -- a hop is answered past three tests
-past : (a b c : Bool) (x y z : Stop) (w : Result Hop Stop) (h : Hop) → Ok h ≡ cond a (Err x) (cond b (Err y) (cond c (Err z) w)) → (b ≡ false) × (c ≡ false)
+past : (a b c : Bool) (x y z : Stop Refusal) (w : Result Hop (Stop Refusal)) (h : Hop) → Ok h ≡ cond a (Err x) (cond b (Err y) (cond c (Err z) w)) → (b ≡ false) × (c ≡ false)
 past true b c x y z w h e = cc
 past false true c x y z w h e = cc
 past false false true x y z w h e = cc

@@ -5,6 +5,7 @@
 
 ghost use Rattle.std.specs.Prelude.{◌≡◌, ◌+◌, ◌*◌, ◌<◌, ◌≤◌, length, get_or, Err, IfOk};
 ghost use Rattle.laws.specs.Lists.{tab};
+ghost use Rattle.refusals.specs.declared.Refusal as F;
 ghost use Rattle.model.specs.Numbers.{f0};
 ghost use Rattle.model.specs.Gate.{db_after};
 ghost use Rattle.watch_recording.specs.Recording.{hop_bytes, step_of};
@@ -92,7 +93,7 @@ pub fn whole_hops(bytes: &[u8], size: usize) -> usize
 pub fn batch_hops(bytes: &[u8], size: usize) -> Result<usize, Stop>
     requires { 0 < size }
     ensures ok { IfOk result (λ hops. Front bytes.now size hops) }
-    ensures err { (stop : S.Stop) → result ≡ Err stop → step_of bytes.now size ≡ Err stop }
+    ensures err { (stop : S.Stop F.Refusal) → result ≡ Err stop → step_of bytes.now size ≡ Err stop }
 {
     step_of(bytes, size)?;
     Ok(whole_hops(bytes, size).min(MOST_HOPS))

@@ -2,14 +2,13 @@
 #![tactic(auto, using(watch_lines::proofs::Texts::right_0), unfolding(watch_lines::specs::Lines::put_texts))]
 
 ghost use Rattle.std.specs.Prelude.{◌≡◌};
-ghost use Rattle.refusals.specs.Numbers.{number_of};
 ghost use Rattle.watch_text.specs.Text.{written};
 ghost use Rattle.watch_lines.specs.Lines.{put_texts};
 ghost use Rattle.watch_fault_lines.specs.FaultLines.{place_text, bad_band_line, room_text, too_large_line, refusal_text, refused_line, bad_flag_line, cut_place};
 
-use refusals::Refusal;
+use refusals::Refuses;
 use watch_figures::end_byte;
-use watch_names::put_name;
+use watch_names::{RefusalNumber, put_name};
 use watch_recording::Place;
 use watch_text::{Line, put_number, put_text};
 
@@ -56,20 +55,20 @@ fn put_room(line: &mut Line, n: u16, needed: usize, most: usize)
 }
 
 // What a call of the library refused.
-pub fn put_refused(line: &mut Line, hop: u64, byte: u64, refusal: Refusal)
-    ensures { written line.new ≡ put_texts (written line.old) (refused_line hop byte (number_of refusal)) }
+pub fn put_refused<E: Refuses>(line: &mut Line, hop: u64, byte: u64, refusal: E)
+    ensures { written line.new ≡ put_texts (written line.old) (refused_line hop byte (E.number refusal)) }
 {
     put_place(line, hop, byte);
-    put_why(line, refusal);
+    put_why(line, refusal.to_number());
 }
 
-fn put_why(line: &mut Line, refusal: Refusal)
-    ensures { written line.new ≡ put_texts (written line.old) (refusal_text (number_of refusal)) }
+fn put_why(line: &mut Line, no: u16)
+    ensures { written line.new ≡ put_texts (written line.old) (refusal_text no) }
 {
     put_text(line, b"refused (");
-    put_number(line, u64::from(refusal.number()), 0);
+    put_number(line, u64::from(no), 0);
     put_text(line, b"), ");
-    put_name(line, &refusal, 0);
+    put_name(line, &RefusalNumber(no), 0);
     put_text(line, b"\n");
 }
 

@@ -22,6 +22,6 @@ abbrev pub going_on : Follows → Followed
 going_on f = (Some f.0, f.1, f.2, f.3, f.4)
 
 -- what is not taken changes nothing, and no more hops are read
-unfoldable pub followed : Result ℕ Stop → Place → List ℕ → List ℕ → List ℕ → List ℕ → List ℕ → List ℕ → Followed
+unfoldable pub followed : {E : Type 0} → Result ℕ (Stop E) → Place → List ℕ → List ℕ → List ℕ → List ℕ → List ℕ → List ℕ → Followed
 followed (Ok size) p alive hops events rises rise drop = going_on (after_hop p size alive hops events rises rise drop)
 followed (Err stop) p alive hops events rises rise drop = (None, alive, hops, events, rises)

@@ -5,10 +5,11 @@ ghost use Rattle.std.specs.Prelude.{◌≡◌, None};
 ghost use Rattle.watch_follow.specs.Followed.{after_hop, followed};
 
 use origins::Explanation;
+use refusals::Refuses;
 use watch_notices::{Watched, faults};
 use watch_recording::{Place, Stop};
 use watch_report::lines::{Channels, print_hop};
-use watch_stores::Stores;
+use watch_stores::Seen;
 
 // The dB of a hop and its marks.
 #[derive(Clone, Copy)]
@@ -22,12 +23,12 @@ pub struct Marked<'a> {
 // where a hop is taken, as slices and not as `watch_report::tail::Kept`: the clause would read kept.new.alive.now, and a call that reads one and writes
 // another is not covered behind it.
 #[tactic(auto, unfolding(crate::specs::Followed::followed))]
-pub fn follow(
+pub fn follow<E: Refuses>(
     w: Watched,
     place: Place,
-    heard: Result<usize, Stop>,
+    heard: Result<usize, Stop<E>>,
     before: Explanation,
-    stores: &Stores,
+    stores: Seen,
     hop: Marked,
     alive: &mut [u8],
     alive_hops: &mut [u64],
@@ -45,7 +46,7 @@ pub fn follow(
 }
 
 // Why no more hops are taken; so there is no next place.
-pub fn print_stop(w: Watched, place: Place, stop: Stop) -> Option<Place>
+pub fn print_stop<E: Refuses>(w: Watched, place: Place, stop: Stop<E>) -> Option<Place>
     ensures { result ≡ None }
 {
     match stop {
@@ -63,7 +64,7 @@ pub fn take_hop(
     size: usize,
     place: Place,
     before: Explanation,
-    stores: &Stores,
+    stores: Seen,
     hop: Marked,
     alive: &mut [u8],
     alive_hops: &mut [u64],

@@ -47,11 +47,11 @@ module _ (c : Bool) (bu : List ℕ) (bf : List Float) (wu : List ℕ) (wf : List
   unfolding judged
   taken b u f v g a e k = ap (beside u f v g) k ∙ ap (then b) e
 
-  module _ (s : Result Hop Stop) where
-    pub heard : (p : Hop) (x : Result ℕ Stop) (j : Judged) → s ≡ Ok p → j ≡ judged c p.is_static bu bf wu wf gu gf h rise drop → x ≡ answer_of p.size j.0
+  module _ (s : Result Hop (Stop Refusal)) where
+    pub heard : (p : Hop) (x : Result ℕ (Stop Refusal)) (j : Judged) → s ≡ Ok p → j ≡ judged c p.is_static bu bf wu wf gu gf h rise drop → x ≡ answer_of p.size j.0
         → (x, j.1, j.2, j.3, j.4, j.5, j.6, j.7, j.8) ≡ heard_of s c bu bf wu wf gu gf h rise drop
     unfolding heard_of
-    heard p x j t e a = rw t (ap (λ (y : Result ℕ Stop). (y, j.1, j.2, j.3, j.4, j.5, j.6, j.7, j.8)) a ∙ ap (answered p.size) e)
+    heard p x j t e a = rw t (ap (λ (y : Result ℕ (Stop Refusal)). (y, j.1, j.2, j.3, j.4, j.5, j.6, j.7, j.8)) a ∙ ap (answered p.size) e)
 
 -- a refusal is the one of its number
 pub names : (e : Refusal) (size : ℕ) → Err (Refused e) ≡ answer_of size (number_of e)

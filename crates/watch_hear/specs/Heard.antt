@@ -28,18 +28,18 @@ named n =
     (cond (eqb n 15) R.Address R.Right))))))))))))))
 
 -- 0: taken, a hop of so many bytes; else the refusal of that number
-abbrev pub answer_of : ℕ → ℕ → Result ℕ Stop
+abbrev pub answer_of : ℕ → ℕ → Result ℕ (Stop Refusal)
 answer_of size zero = Ok size
 answer_of size (suc r) = Err (Refused (named (suc r)))
 
 -- what became of it, the bank's two stores, those of the worst floor, the gate's, rise and drop
 abbrev pub Left : Type 0
-Left = Result ℕ Stop × List ℕ × List Float × List ℕ × List Float × List ℕ × List Float × List ℕ × List ℕ
+Left = Result ℕ (Stop Refusal) × List ℕ × List Float × List ℕ × List Float × List ℕ × List Float × List ℕ × List ℕ
 
 abbrev pub answered : ℕ → Judged → Left
 answered size j = (answer_of size j.0, j.1, j.2, j.3, j.4, j.5, j.6, j.7, j.8)
 
 -- by what was read where the hop is due: only a whole hop changes anything
-unfoldable pub heard_of : Result Hop Stop → Bool → List ℕ → List Float → List ℕ → List Float → List ℕ → List Float → GateHop → List ℕ → List ℕ → Left
+unfoldable pub heard_of : Result Hop (Stop Refusal) → Bool → List ℕ → List Float → List ℕ → List Float → List ℕ → List Float → GateHop → List ℕ → List ℕ → Left
 heard_of (Ok s) carries bu bf wu wf gu gf h rise drop = answered s.size (judged carries s.is_static bu bf wu wf gu gf h rise drop)
 heard_of (Err stop) carries bu bf wu wf gu gf h rise drop = (Err stop, bu, bf, wu, wf, gu, gf, rise, drop)

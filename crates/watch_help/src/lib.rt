@@ -95,7 +95,7 @@ fn words_of(fault: Fault) -> &'static [u8] {
         Fault::BadSpan => b" is no span: a number of slow hops from 1 to 600\n",
         Fault::NoValue => b" is the last word and needs a value\n",
         Fault::SecondFile => b" is a second file; watch takes one\n",
-        Fault::TooLong => b" is too long\n",
+        Fault::TooLong | Fault::Other(_) => b" is too long\n",
     }
 }
 

@@ -11,11 +11,11 @@ use Rattle.watch_recording.specs.declared.Stop.{Stop}
 use Rattle.watch_recording.specs.declared.Stop.TheVariants.{End, Cut, Refused}
 
 -- a refusal of a hop of which so many bytes could be read: 10 is that it is cut
-abbrev pub refused_by : Refusal → ℕ → Stop
+abbrev pub refused_by : Refusal → ℕ → Stop Refusal
 refused_by r got = cond (eqb (number_of r) 10) (Cut got) (Refused r)
 
 -- a log has no flag for static
-abbrev pub step_by : Result (Option ℕ) Refusal → ℕ → Result Hop Stop
+abbrev pub step_by : Result (Option ℕ) Refusal → ℕ → Result Hop (Stop Refusal)
 step_by (Ok (Some next)) got = whole false got
 step_by (Ok None) got = Err End
 step_by (Err r) got = Err (refused_by r got)

@@ -123,3 +123,33 @@ impl Named for Refusal {
         }
     }
 }
+
+// A refusal by its number, which need be no refusal's.
+#[derive(Clone, Copy, Debug, PartialEq, Eq)]
+pub struct RefusalNumber(pub u16);
+
+impl Named for RefusalNumber {
+    ghost name = { λ x. refusal_name x.0 };
+
+    fn name(&self) -> &'static [u8] {
+        match self.0 {
+            1 => Refusal::Band.name(),
+            2 => Refusal::StoreSize.name(),
+            3 => Refusal::Lengths.name(),
+            4 => Refusal::Level.name(),
+            5 => Refusal::HopSize.name(),
+            6 => Refusal::Garbled.name(),
+            7 => Refusal::Channel.name(),
+            8 => Refusal::Mismatch.name(),
+            9 => Refusal::Unsound.name(),
+            10 => Refusal::Cut.name(),
+            11 => Refusal::Damaged.name(),
+            12 => Refusal::Span.name(),
+            13 => Refusal::Unlike.name(),
+            14 => Refusal::Segments.name(),
+            15 => Refusal::Address.name(),
+            16 => Refusal::Right.name(),
+            _ => b"no refusal has this number",
+        }
+    }
+}

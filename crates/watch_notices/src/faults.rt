@@ -1,6 +1,6 @@
 // What is wrong with a recording or a log, on standard error, with the hop and the byte.
 use crate::Watched;
-use refusals::Refusal;
+use refusals::Refuses;
 use streams::{STDERR, Source};
 use watch_fault_lines::{
     put_bad_band, put_bad_flag, put_cut_place, put_place, put_refused, put_too_large,
@@ -48,13 +48,13 @@ pub fn print_too_large(w: Watched, needed: usize, most: usize) {
 }
 
 // A refusal before the first hop, where there is no `Place` to tell.
-pub fn print_refusal(w: Watched, refusal: Refusal) {
+pub fn print_refusal<E: Refuses>(w: Watched, refusal: E) {
     let mut line = Line::new();
     put_refused(&mut line, 0, 0, refusal);
     cry_of(w.name, &line);
 }
 
-pub fn print_refused(w: Watched, place: Place, refusal: Refusal) {
+pub fn print_refused<E: Refuses>(w: Watched, place: Place, refusal: E) {
     let mut line = Line::new();
     put_refused(&mut line, place.hop, place.byte, refusal);
     cry_of(w.name, &line);

@@ -21,9 +21,9 @@ pub struct Hop {
     pub size: usize,
 }
 
-// Why no hop is taken where one is due.
+// Why no hop is taken where one is due, refused by a `Refusal` or by another thing that says so.
 #[derive(Clone, Copy, Debug, PartialEq, Eq)]
-pub enum Stop {
+pub enum Stop<E = Refusal> {
     // The recording ends here.
     End,
     // It ends so many bytes into the hop.
@@ -31,7 +31,7 @@ pub enum Stop {
     // A flag byte with a bit that means nothing.
     BadFlag(u8),
     // The reader of a log, the bank or the gate refused.
-    Refused(Refusal),
+    Refused(E),
 }
 
 impl From<Refusal> for Stop {

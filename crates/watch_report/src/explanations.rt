@@ -6,7 +6,7 @@ use origins::Explanation;
 use streams::STDOUT;
 use watch_lines::explained::put_explain_line;
 use watch_origins::{explanation_of, is_news, no_explanation};
-use watch_stores::Stores;
+use watch_stores::Seen;
 use watch_text::{Line, put_text};
 use watch_words::Settings;
 
@@ -18,8 +18,8 @@ pub fn explanation_shown(bank: &[u16], bank_f: &[f64], k: usize) -> Explanation
 
 // What a hop is held against: the floors as they are before it is heard. Where nothing is to be explained nothing is worked out, and
 // no number stands for it. No Option: it is looked at only where the settings name a channel, and would be asked there a second time.
-pub fn explanation_before(s: Settings, stores: &Stores) -> Explanation
-    ensures { result ≡ explanation_before s.explained stores.now.bank.now stores.now.bank_f.now }
+pub fn explanation_before(s: Settings, stores: Seen) -> Explanation
+    ensures { result ≡ explanation_before s.explained stores.entry.bank.now stores.entry.bank_f.now }
 {
     match s.explained {
         Some(k) => explanation_shown(stores.bank, stores.bank_f, k),

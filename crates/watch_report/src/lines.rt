@@ -14,7 +14,7 @@ use watch_figures::{ends_minute, float_at, value, whole_seconds};
 use watch_floats::put_power;
 use watch_lines::{put_change_line, put_row_line};
 use watch_states::{Change, change_at, next_state};
-use watch_stores::Stores;
+use watch_stores::Seen;
 use watch_text::{Line, put_number, put_text};
 use watch_words::Settings;
 use watch_worst::put_worst;
@@ -41,7 +41,7 @@ fn print_progress(hop: u64) {
 }
 
 // What a hop gives to print.
-pub fn print_hop(hop: u64, s: Settings, before: Explanation, stores: &Stores, at: Channels) {
+pub fn print_hop(hop: u64, s: Settings, before: Explanation, stores: Seen, at: Channels) {
     print_progress(hop);
     if s.is_csv {
         if watch_recording::is_slow(hop) {
@@ -57,7 +57,7 @@ pub fn print_hop(hop: u64, s: Settings, before: Explanation, stores: &Stores, at
 }
 
 // A change goes on as a bool, whether the channel is alive now: by that its reference is shown, too.
-fn print_changes(hop: u64, s: Settings, stores: &Stores, at: Channels) {
+fn print_changes(hop: u64, s: Settings, stores: Seen, at: Channels) {
     // Over indices, here and for rows: k is the channel that is printed, and by which its readings are asked for.
     for k in 0..at.alive.len() {
         match change_at(at.alive, at.rise, at.drop, k) {
@@ -93,7 +93,7 @@ fn put_change_of(
     put_change_line(line, hop, k, is_alive, smoothed, f);
 }
 
-fn print_change(hop: u64, s: Settings, stores: &Stores, k: usize, is_alive: bool) {
+fn print_change(hop: u64, s: Settings, stores: Seen, k: usize, is_alive: bool) {
     let mut line = Line::new();
     put_change_of(
         &mut line,
@@ -111,7 +111,7 @@ fn print_change(hop: u64, s: Settings, stores: &Stores, k: usize, is_alive: bool
     io::write_all(STDOUT, line.text());
 }
 
-fn print_rows(hop: u64, s: Settings, stores: &Stores, at: Channels) {
+fn print_rows(hop: u64, s: Settings, stores: Seen, at: Channels) {
     for k in 0..at.alive.len() {
         let db = float_at(at.db, k);
         let is_alive = next_state(at.alive, at.rise, at.drop, k);
@@ -141,15 +141,21 @@ fn put_row_of(
     put_row_line(line, hop, k, db, smoothed, f, is_alive, event, x);
 }
 
-fn print_row(hop: u64, s: Settings, db: f64, stores: &Stores, k: usize, is_alive: bool, event: u8) {
+fn print_row(hop: u64, s: Settings, db: f64, stores: Seen, k: usize, is_alive: bool, event: u8) {
     let mut line = Line::new();
-    let (bank, bank_f) = (&*stores.bank, &*stores.bank_f);
-    let (gate, gate_f) = (&*stores.gate, &*stores.gate_f);
+    let Seen {
+        bank,
+        bank_f,
+        worst,
+        worst_f,
+        gate,
+        gate_f,
+    } = stores;
     put_row_of(
         &mut line, hop, db, bank, bank_f, gate, gate_f, k, is_alive, event,
     );
     put_csv_reference(&mut line, s.has_reference, bank, bank_f, k, is_alive);
-    let w = worst_shown(s, bank, bank_f, stores.worst, stores.worst_f, k);
+    let w = worst_shown(s, bank, bank_f, worst, worst_f, k);
     put_csv_worst(&mut line, w);
     put_text(&mut line, b"\n");
     io::write_all(STDOUT, line.text());

@@ -3,7 +3,7 @@ use crate::explanations::explanation_shown;
 use crate::out::{floors_shown, put_reference, worst_shown};
 use streams::STDOUT;
 use watch_lines::{put_channel_line, put_total_line};
-use watch_stores::Stores;
+use watch_stores::Seen;
 use watch_text::{Line, put_text};
 use watch_words::Settings;
 
@@ -18,7 +18,7 @@ pub struct Kept<'a> {
 }
 
 // The channels at the end.
-pub fn print_tail(s: Settings, hops: u64, stores: &Stores, kept: &Kept) {
+pub fn print_tail(s: Settings, hops: u64, stores: Seen, kept: &Kept) {
     if s.is_csv {
         return;
     }
@@ -50,14 +50,7 @@ fn print_total(s: Settings, hops: u64) {
     );
 }
 
-fn print_channel(
-    s: Settings,
-    stores: &Stores,
-    k: usize,
-    is_alive: bool,
-    alive_hops: u64,
-    rises: u64,
-) {
+fn print_channel(s: Settings, stores: Seen, k: usize, is_alive: bool, alive_hops: u64, rises: u64) {
     let mut line = Line::new();
     let f = floors_shown(stores.bank, stores.bank_f, k);
     let w = worst_shown(

@@ -100,7 +100,7 @@ fn watch_all(
             None => break,
         }
     }
-    print_tail(w.s, place.hop, stores, kept);
+    print_tail(w.s, place.hop, stores.seen(), kept);
 }
 
 // What has come from where a hop is due: the whole hops in front are a batch. Where there is none the watch ends.
@@ -141,7 +141,7 @@ fn take_batch(
 ) -> Option<Place>
     requires { (hops ≤ 15) × (hop_bytes w.n * hops ≤ length bytes.now) }
 {
-    let before = explanation_before(w.s, stores);
+    let before = explanation_before(w.s, stores.seen());
     let started = started_of(stores.gate);
     let mut smooth = [0.0f64; MOST];
     let smooth = &mut smooth[..channels(w.n)];
@@ -275,14 +275,14 @@ fn tell_hops(
             size,
             next,
             shown,
-            stores,
+            stores.seen(),
             hop,
             kept.alive,
             kept.alive_hops,
             kept.events,
             kept.rises,
         );
-        shown = explanation_before(w.s, stores);
+        shown = explanation_before(w.s, stores.seen());
     }
     next
 }

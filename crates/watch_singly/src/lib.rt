@@ -110,7 +110,7 @@ fn watch_all(
 ) {
     let mut place = watch_recording::first_place();
     for _ in 0..u64::MAX {
-        let before = explanation_before(w.s, stores);
+        let before = explanation_before(w.s, stores.seen());
         let heard = hear_next(w, stores, patterns, db, power, rise, drop);
         let hop = Marked {
             db: &*db,
@@ -122,7 +122,7 @@ fn watch_all(
             place,
             heard,
             before,
-            stores,
+            stores.seen(),
             hop,
             kept.alive,
             kept.alive_hops,
@@ -134,5 +134,5 @@ fn watch_all(
             None => break,
         }
     }
-    print_tail(w.s, place.hop, stores, kept);
+    print_tail(w.s, place.hop, stores.seen(), kept);
 }

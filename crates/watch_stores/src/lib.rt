@@ -21,6 +21,34 @@ pub struct Stores<'a> {
     pub gate_f: &'a mut [f64],
 }
 
+// The same, lent to be read alone.
+#[derive(Clone, Copy)]
+pub struct Seen<'a> {
+    pub bank: &'a [u16],
+    pub bank_f: &'a [f64],
+    pub worst: &'a [u16],
+    pub worst_f: &'a [f64],
+    pub gate: &'a [u16],
+    pub gate_f: &'a [f64],
+}
+
+impl<'a> Stores<'a> {
+    pub fn seen(&self) -> Seen<'_>
+        ensures banks { (result.bank.now ≡ self.now.bank.now) × (result.bank_f.now ≡ self.now.bank_f.now) }
+        ensures worsts { (result.worst.now ≡ self.now.worst.now) × (result.worst_f.now ≡ self.now.worst_f.now) }
+        ensures gates { (result.gate.now ≡ self.now.gate.now) × (result.gate_f.now ≡ self.now.gate_f.now) }
+    {
+        Seen {
+            bank: self.bank,
+            bank_f: self.bank_f,
+            worst: self.worst,
+            worst_f: self.worst_f,
+            gate: self.gate,
+            gate_f: self.gate_f,
+        }
+    }
+}
+
 // A fresh bank and a fresh gate. The window lengths stand beside the settings, as any list: a gate refuses those that it can't have, more than eight
 // among them, and the settings hold no more than eight.
 pub fn make(

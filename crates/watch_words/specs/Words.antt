@@ -161,9 +161,9 @@ awaiting s v i = noted s (Some (v, i)) s.fault
 abbrev pub printing : Settings → Bool → Bool → Bool → Settings
 printing s csv reference help = asking s csv reference help s.is_log s.is_linear s.file
 
--- the file is word i
+-- the file is word i; word 0 is the program's own name, and names none
 abbrev pub filed : Settings → ℕ → Settings
-filed s i = asking s s.is_csv s.has_reference s.is_help s.is_log s.is_linear (Some i)
+filed s i = asking s s.is_csv s.has_reference s.is_help s.is_log s.is_linear (cond (eqb i 0) None (Some i))
 
 -- what is watched is a hop log
 abbrev pub logged : Settings → Settings

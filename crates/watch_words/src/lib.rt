@@ -45,6 +45,8 @@ pub enum Fault {
     TooLong,
     BadChannel,
     BadSpan,
+    // Another thing, by a number of the caller's; a report has no words of its own for it.
+    Other(u8),
 }
 
 fn is(word: &[u8], name: &[u8]) -> bool
@@ -183,6 +185,8 @@ fn with_file(s: Settings, i: usize) -> Settings
 {
     match s.file {
         Some(_) => faulty(s, Fault::SecondFile, i),
+        // Word 0 is the program's own name, and names none.
+        None if i == 0 => s,
         None => Settings { file: Some(i), ..s },
     }
 }
