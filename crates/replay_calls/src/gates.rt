@@ -97,7 +97,7 @@ pub fn replay_reading<'a>(r: Replay<'a>, s: GateStores) -> Replay<'a> {
     passed_reading(r, got)
 }
 
-// 10, the sum of the u16 store, the f64 store: what both hold. As of a bank; only which stores they are differs.
+// 10, the sum of the u16 store, the f64 store: what both hold. As of a bank, but that the record has as many floats as were lent.
 pub fn replay_stores<'a>(r: Replay<'a>, s: GateStores) -> Replay<'a> {
     let GateStores { gate, gate_f, .. } = s;
     passed_stores(r, gate, gate_f)

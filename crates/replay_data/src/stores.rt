@@ -26,7 +26,9 @@ pub struct GateStores<'a> {
 
 impl<'a> Stores<'a> {
     pub fn of_gate(self) -> GateStores<'a>
-        ensures { (result.bank.now ≡ self.entry.bank.now) × (result.bank_f.now ≡ self.entry.bank_f.now) }
+        ensures bank { (result.bank.now ≡ self.entry.bank.now) × (result.bank_f.now ≡ self.entry.bank_f.now) }
+        ensures gate { (result.gate ≡ self.entry.gate) × (result.gate_f ≡ self.entry.gate_f) }
+        ensures marks { (result.rise ≡ self.entry.rise) × (result.drop ≡ self.entry.drop) }
     {
         let Stores {
             bank,

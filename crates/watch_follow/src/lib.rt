@@ -10,6 +10,7 @@ use watch_notices::{Watched, faults};
 use watch_recording::{Place, Stop};
 use watch_report::lines::{Channels, print_hop};
 use watch_stores::Seen;
+use watch_words::Settings;
 
 // The dB of a hop and its marks.
 #[derive(Clone, Copy)]
@@ -39,7 +40,7 @@ pub fn follow<E: Refuses>(
 {
     match heard {
         Ok(size) => Some(take_hop(
-            w, size, place, before, stores, hop, alive, alive_hops, events, rises,
+            w.s, size, place, before, stores, hop, alive, alive_hops, events, rises,
         )),
         Err(stop) => print_stop(w, place, stop),
     }
@@ -53,14 +54,14 @@ pub fn print_stop<E: Refuses>(w: Watched, place: Place, stop: Stop<E>) -> Option
         Stop::End => {}
         Stop::Cut(got) => faults::print_cut(w, place, got),
         Stop::BadFlag(flag) => faults::print_bad_flag(w, place, flag),
-        Stop::Refused(refusal) => faults::print_refused(w, place, refusal),
+        Stop::Refused(refusal) => faults::print_refused(w.name, place, refusal),
     }
     None
 }
 
 // What the marks of a hop change, told and then taken over.
 pub fn take_hop(
-    w: Watched,
+    s: Settings,
     size: usize,
     place: Place,
     before: Explanation,
@@ -83,7 +84,7 @@ pub fn take_hop(
         rise,
         drop,
     };
-    print_hop(place.hop, w.s, before, stores, channels);
+    print_hop(place.hop, s, before, stores, channels);
     watch_states::close_hop(
         watch_recording::is_slow(place.hop),
         alive,

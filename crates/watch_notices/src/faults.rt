@@ -47,17 +47,15 @@ pub fn print_too_large(w: Watched, needed: usize, most: usize) {
     cry_of(w.name, &line);
 }
 
-// A refusal before the first hop, where there is no `Place` to tell.
-pub fn print_refusal<E: Refuses>(w: Watched, refusal: E) {
+// By the hop and the byte, since before the first hop there is no `Place`.
+pub fn print_refusal<E: Refuses>(name: &[u8], hop: u64, byte: u64, refusal: E) {
     let mut line = Line::new();
-    put_refused(&mut line, 0, 0, refusal);
-    cry_of(w.name, &line);
+    put_refused(&mut line, hop, byte, refusal);
+    cry_of(name, &line);
 }
 
-pub fn print_refused<E: Refuses>(w: Watched, place: Place, refusal: E) {
-    let mut line = Line::new();
-    put_refused(&mut line, place.hop, place.byte, refusal);
-    cry_of(w.name, &line);
+pub fn print_refused<E: Refuses>(name: &[u8], place: Place, refusal: E) {
+    print_refusal(name, place.hop, place.byte, refusal);
 }
 
 // It ends within a hop.

@@ -99,12 +99,12 @@ fn make_all(w: Watched, stores: &mut Stores) -> Result<(), Refusal> {
 // Makes the stores, and watches the hops.
 fn watch_with(w: Watched, stores: &mut Stores) {
     if let Err(refusal) = make_all(w, stores) {
-        faults::print_refusal(w, refusal);
+        faults::print_refusal(w.name, 0, 0, refusal);
         return;
     }
     // A bank of n channels has none to explain beyond.
     if w.s.explained.is_some_and(|k| k >= usize::from(w.n)) {
-        faults::print_refusal(w, Refusal::Channel);
+        faults::print_refusal(w.name, 0, 0, Refusal::Channel);
         return;
     }
     head::print_head(w);

@@ -271,7 +271,7 @@ fn tell_hops(
         put_db(stores.gate_f, smooth);
         on = started_after(hold[i], on);
         next = take_hop(
-            w,
+            w.s,
             size,
             next,
             shown,
