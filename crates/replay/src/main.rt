@@ -1,6 +1,9 @@
 // Replays a kept list of calls of a bank and a gate and compares what floor.rs answered to them; tests/compare/README.md says how the list is made.
 #![tactic(auto)]
 
+ghost use Rattle.std.specs.Prelude.{◌≡◌, true};
+ghost use Rattle.replay_data.specs.Records.{has_room};
+
 use replay_calls::{banks, gates};
 use replay_data::state::{GATE_LEN, MOST, MOST_F_LEN, MOST_GATE_F_LEN, MOST_LEN, Replay};
 use replay_data::stores::Stores;
@@ -10,8 +13,10 @@ use streams::{STDOUT, Source};
 const MOST_BYTES: usize = 600000;
 
 // A record takes two bytes or more, so there are no more turns than bytes; that the loop ends is known by them. A record is replayed on the parts of the
-// stores that its bank and its gate take, which are arrays for the largest, since there is no heap.
-fn replay_list(list: &[u8]) -> Replay<'_> {
+// stores that its bank and its gate take, which are arrays for the largest, since there is no heap. One that takes more ends the list.
+fn replay_list(list: &[u8]) -> Replay<'_>
+    ensures room { has_room result.n result.floats ≡ true }
+{
     let mut bank = [0u16; MOST_LEN];
     let mut bank_f = [0.0f64; MOST_F_LEN];
     let mut gate = [0u16; GATE_LEN];
@@ -55,13 +60,17 @@ fn replay_list(list: &[u8]) -> Replay<'_> {
     r
 }
 
-fn replay_bytes<'a>(source: &Source, buffer: &'a mut [u8]) -> Replay<'a> {
+fn replay_bytes<'a>(source: &Source, buffer: &'a mut [u8]) -> Replay<'a>
+    ensures room { has_room result.n result.floats ≡ true }
+{
     let bytes = streams::read_full(source, buffer);
     replay_list(&buffer[..bytes])
 }
 
 // On the whole array, whose length needs no proof.
-fn replay_input<'a>(source: &Source, buffer: &'a mut [u8; MOST_BYTES]) -> Replay<'a> {
+fn replay_input<'a>(source: &Source, buffer: &'a mut [u8; MOST_BYTES]) -> Replay<'a>
+    ensures room { has_room result.n result.floats ≡ true }
+{
     replay_bytes(source, buffer)
 }
 

@@ -1,5 +1,8 @@
 // The records of a gate: one call each, with what is due. Arrays take the lengths and a hop, since there is no heap. The kind of a reading is the
 // number that the list has for it.
+ghost use Rattle.std.specs.Prelude.{MatchOption, ⊤};
+ghost use Rattle.replay_data.specs.Kept.{Kept};
+
 use low_first::two_bytes;
 use replay_data::compare::{answer_differs, passed_reading, passed_stores};
 use replay_data::hop::fill_hop;
@@ -25,7 +28,9 @@ fn fill_lengths(list: &[u8], at: usize, lengths: &mut [u16]) {
 }
 
 // 6, n, f64 length, on, off, early, number of lengths, lengths, answer: a fresh gate. None where a list that asks for more lengths ends.
-pub fn replay_new<'a>(r: Replay<'a>, s: GateStores) -> Option<Replay<'a>> {
+pub fn replay_new<'a>(r: Replay<'a>, s: GateStores) -> Option<Replay<'a>>
+    ensures kept { MatchOption result ⊤ (Kept r.entry) }
+{
     let GateStores { gate, gate_f, .. } = s;
     let count = r.index(10);
     if count > MOST_LENGTHS {
@@ -48,7 +53,9 @@ pub fn replay_new<'a>(r: Replay<'a>, s: GateStores) -> Option<Replay<'a>> {
 }
 
 // 7, answer, n rise bytes, n drop bytes: a gate update with the hop of the last single bank update.
-pub fn replay_update<'a>(r: Replay<'a>, s: GateStores) -> Replay<'a> {
+pub fn replay_update<'a>(r: Replay<'a>, s: GateStores) -> Replay<'a>
+    ensures kept { Kept r.entry result }
+{
     let GateStores {
         bank,
         bank_f,
@@ -67,7 +74,9 @@ pub fn replay_update<'a>(r: Replay<'a>, s: GateStores) -> Replay<'a> {
 }
 
 // 8 and the same: a hold.
-pub fn replay_hold<'a>(r: Replay<'a>, s: GateStores) -> Replay<'a> {
+pub fn replay_hold<'a>(r: Replay<'a>, s: GateStores) -> Replay<'a>
+    ensures kept { Kept r.entry result }
+{
     let GateStores {
         bank,
         bank_f,
@@ -81,7 +90,9 @@ pub fn replay_hold<'a>(r: Replay<'a>, s: GateStores) -> Replay<'a> {
 }
 
 // 9, kind, k, answer, value: a reading.
-pub fn replay_reading<'a>(r: Replay<'a>, s: GateStores) -> Replay<'a> {
+pub fn replay_reading<'a>(r: Replay<'a>, s: GateStores) -> Replay<'a>
+    ensures kept { Kept r.entry result }
+{
     let GateStores {
         bank,
         bank_f,
@@ -98,7 +109,9 @@ pub fn replay_reading<'a>(r: Replay<'a>, s: GateStores) -> Replay<'a> {
 }
 
 // 10, the sum of the u16 store, the f64 store: what both hold. As of a bank, but that the record has as many floats as were lent.
-pub fn replay_stores<'a>(r: Replay<'a>, s: GateStores) -> Replay<'a> {
+pub fn replay_stores<'a>(r: Replay<'a>, s: GateStores) -> Replay<'a>
+    ensures kept { Kept r.entry result }
+{
     let GateStores { gate, gate_f, .. } = s;
     passed_stores(r, gate, gate_f)
 }

@@ -1,4 +1,6 @@
 // The end of a record whose call writes marks.
+ghost use Rattle.replay_data.specs.Kept.{Kept};
+
 use crate::compare::{answer_differs, differing};
 use crate::state::{Replay, after};
 use refusals::Refusal;
@@ -12,7 +14,9 @@ pub fn passed_marks<'a>(
     done: Result<(), Refusal>,
     rise: &[u8],
     drop: &[u8],
-) -> Replay<'a> {
+) -> Replay<'a>
+    ensures kept { Kept r.entry result }
+{
     r.at = at;
     let answers = answer_differs(r, 0, done);
     let rises = after(at, 1);

@@ -1,6 +1,9 @@
 // The record of a run of hops: one call, with what is due.
 #![tactic(auto)]
 
+ghost use Rattle.std.specs.Prelude.{MatchOption, ⊤};
+ghost use Rattle.replay_data.specs.Kept.{Kept};
+
 use replay_data::hop::fill_hop;
 use replay_data::marks::passed_marks;
 use replay_data::state::{MOST, Replay, after};
@@ -11,7 +14,9 @@ const MOST_VALUES: usize = 46 * MOST;
 
 // 11, hops, the holds, the rows of dB, the rows of power, answer, the rise bytes, the drop bytes: a run of hops. None where a list ends that has
 // a longer one, or not all its holds.
-pub fn replay_run<'a>(r: Replay<'a>, s: Stores) -> Option<Replay<'a>> {
+pub fn replay_run<'a>(r: Replay<'a>, s: Stores) -> Option<Replay<'a>>
+    ensures kept { MatchOption result ⊤ (Kept r.entry) }
+{
     let Stores {
         bank,
         bank_f,
